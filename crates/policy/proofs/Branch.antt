@@ -1,0 +1,117 @@
+-- The search of a box goes by the pieces that a selector leaves. Over any set of headers.
+-- Assumes nothing.
+use Prim.Native.Nat.{ℕ}
+use mathlib.Core.Path.{_≡_, refl, sym, _∙_, ap, ap₂, fun-ext}
+use mathlib.Core.Logic.{_⊎_, inl, inr}
+use mathlib.Core.Bool.{Bool, true, false, not, cond, _&&_, _||_, and-false, and-true, and-or-distrib-left}
+use mathlib.Core.List.{List, [], _∷_, map}
+use Rattle.policy.specs.declared.header.Header.{Header}
+use Rattle.policy.specs.declared.header.Found.{Found}
+use Rattle.policy.specs.declared.header.Found.the-variants.{At, Nothing}
+use Rattle.policy.specs.Box.{inside, proper, lows, meet}
+use Rattle.policy.specs.Cut.{cut}
+use Rattle.policy.specs.Header.{arity, fields, header, before, Box, lies, Headers, inAny, among}
+use Rattle.policy.specs.Found.{lesser, minOver, minFrom}
+use Rattle.policy.specs.Least.{least, leastIn, always}
+use Rattle.policy.proofs.Bool.{case, clash, is-false, and-intro, and-left, and-right}
+use Rattle.policy.proofs.Box.{any, cut-is, meet-is, corner-in, in-proper, none-before}
+use Rattle.policy.proofs.Least.{agree, least-at, least-none, at-tells, over, over-from}
+
+-- ---- extensionality
+
+-- two properties that agree on the headers of the box
+pub leastIn-agree : (hs : Headers) (b : Box) (P Q : Header → Bool) → ((h : Header) → among hs h ≡ true → lies b h ≡ true → P h ≡ Q h)
+    → leastIn hs b P ≡ leastIn hs b Q
+unfolding leastIn
+leastIn-agree hs b P Q f = agree hs (λ h. lies b h && P h) (λ h. lies b h && Q h) λ h a. one (lies b h) (P h) (Q h) (f h a)
+  where
+    one : (b p q : Bool) → (b ≡ true → p ≡ q) → (b && p) ≡ (b && q)
+    one true p q g = g refl
+    one false p q g = refl
+
+-- ---- what is found lies in the box
+
+pub found-lies : (hs : Headers) (b : Box) (P : Header → Bool) (h : Header) → leastIn hs b P ≡ At h → lies b h ≡ true
+unfolding leastIn
+found-lies hs b P h e = and-left (lies b h) (P h) (at-tells hs (λ h. lies b h && P h) h e .1)
+
+-- a crossed box holds no header
+pub crossed-none : (hs : Headers) (P : Header → Bool) (b : Box) → proper arity b ≡ false → leastIn hs b P ≡ Nothing
+unfolding leastIn
+crossed-none hs P b e = least-none hs (λ h. lies b h && P h) λ g a. is-false (lies b g && P g) λ i. clash (in-proper arity b (fields g) (and-left (lies b g) (P g) i)) e
+
+-- ---- corner
+
+-- every header-shaped row of the box is a header of the set
+abbrev pub Within : Headers → Box → Type 0
+Within hs b = (h : Header) → lies b h ≡ true → among hs h ≡ true
+
+-- the low corner of such a box is its least header
+pub corner : (hs : Headers) (b : Box) (P : Header → Bool) → Within hs b → proper arity b ≡ true → P (header (lows arity b)) ≡ true
+    → leastIn hs b P ≡ At (header (lows arity b))
+unfolding leastIn
+corner hs b P w p o =
+    least-at hs (λ h. lies b h && P h) (header (lows arity b)) (w (header (lows arity b)) i) (and-intro i o)
+    λ g a l. is-false (lies b g && P g) λ t. none-before arity b (fields g) (and-left (lies b g) (P g) t) l
+  where
+    i : inside arity b (lows arity b) ≡ true
+    i = corner-in arity b p
+
+-- ---- union
+
+-- what is asked of one box, over the boxes of a list
+pieces : (P : Header → Bool) (ps : List Box) (h : Header)
+    → any (λ (p : Box) (h : Header). lies p h && P h) ps h ≡ (any (inside arity) ps (fields h) && P h)
+pieces P [] h = refl
+pieces P (p ∷ ps) h = ap ((lies p h && P h) ||_) (pieces P ps h) ∙ table (lies p h) (any (inside arity) ps (fields h)) (P h)
+  where
+    table : (b c d : Bool) → (b && d || c && d) ≡ ((b || c) && d)
+    table true c true = refl
+    table true true false = refl
+    table true false false = refl
+    table false c d = refl
+
+-- a search over several boxes is the least of the searches
+pub leastIn-over : (hs : Headers) (P : Header → Bool) (ps : List Box)
+    → least hs (λ h. any (inside arity) ps (fields h) && P h) ≡ minOver (λ p. leastIn hs p P) ps
+unfolding leastIn
+leastIn-over hs P ps = ap (least hs) (fun-ext λ h. sym (pieces P ps h)) ∙ over hs (λ (p : Box) (h : Header). lies p h && P h) ps
+
+-- a search that asks nothing more, or that is not asked
+pub leastIn-when : (hs : Headers) (b : Box) (w : Bool) → leastIn hs b (λ h. w) ≡ cond w (leastIn hs b always) Nothing
+leastIn-when hs b true = refl
+leastIn-when hs b false = unfold leastIn in least-none hs (λ h. lies b h && false) λ g a. and-false (lies b g)
+
+-- the search of a box is the least over the set's boxes of the search of its part in each
+pub over-set : (hs : Headers) (b : Box) (P : Header → Bool) → leastIn hs b P ≡ minOver (λ p. leastIn hs p P) (map (meet arity b) (hs .boxes))
+over-set hs b P = unfold leastIn in agree hs (λ h. lies b h && P h) (λ h. any (inside arity) (map (meet arity b) (hs .boxes)) (fields h) && P h) whole ∙ leastIn-over hs P (map (meet arity b) (hs .boxes))
+  where
+    parts : (qs : List Box) (h : Header) → any (inside arity) (map (meet arity b) qs) (fields h) ≡ (lies b h && inAny qs h)
+    parts [] h = sym (and-false (lies b h))
+    parts (q ∷ qs) h = ap₂ _||_ (meet-is arity b q (fields h)) (parts qs h) ∙ sym (and-or-distrib-left (lies b h) (lies q h) (inAny qs h))
+
+    whole : (h : Header) → among hs h ≡ true → (lies b h && P h) ≡ (any (inside arity) (map (meet arity b) (hs .boxes)) (fields h) && P h)
+    whole h a = sym (ap (_&& P h) (parts (hs .boxes) h ∙ ap (lies b h &&_) a ∙ and-true (lies b h)))
+
+-- ---- branch
+
+module _ (hs : Headers) (A B : Header → Bool) (b s : Box) where
+  table : (b m t v : Bool) → (b && cond m v t) ≡ ((b && not m && t) || (b && m && v))
+  table false m t v = refl
+  table true true t v = refl
+  table true false true v = refl
+  table true false false v = refl
+
+  split : (h : Header) → (lies b h && cond (lies s h) (A h) (B h))
+      ≡ (any (λ (p : Box) (h : Header). lies p h && B h) (cut arity b s) h || (lies (meet arity b s) h && A h))
+  split h =
+      table (lies b h) (lies s h) (B h) (A h)
+      ∙ ap₂ (λ (p q : Bool). (p && B h) || (q && A h)) (sym (cut-is arity b s (fields h))) (sym (meet-is arity b s (fields h)))
+      ∙ ap (_|| (lies (meet arity b s) h && A h)) (sym (pieces B (cut arity b s) h))
+
+  -- what is asked is A inside s and B outside: the part of b inside s, by A; and the pieces outside s, by B
+  pub branch : leastIn hs b (λ h. cond (lies s h) (A h) (B h)) ≡ minFrom (leastIn hs (meet arity b s) A) (λ p. leastIn hs p B) (cut arity b s)
+  unfolding leastIn
+  branch =
+      ap (least hs) (fun-ext split)
+      ∙ over-from hs (λ (p : Box) (h : Header). lies p h && B h) (cut arity b s) (λ h. lies (meet arity b s) h && A h)

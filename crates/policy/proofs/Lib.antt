@@ -1,0 +1,8 @@
+pub mod Bool
+pub mod Order
+pub mod Least
+pub mod Box
+pub mod Branch
+-- pub mod Actions
+-- pub mod Policy
+pub mod Branches

@@ -1,0 +1,10 @@
+pub mod Row
+pub mod Box
+pub mod Cut
+pub mod Header
+pub mod Found
+pub mod Least
+pub mod Actions
+pub mod Entry
+pub mod Policy
+pub mod Refusals

@@ -1,0 +1,71 @@
+// Entries: the eleven numbers of a record, at the format's widths.
+use crate::header::Header;
+use crate::region::Range;
+use crate::region::Region;
+use crate::region::holds;
+use crate::region::is_proper;
+ghost use mathlib.Core.Path.{_≡_};
+ghost use Rattle.policy.specs.Header.{ranges};
+ghost use Rattle.policy.specs.Entry.{selector, matches, crossed};
+
+pub struct Entry {
+    pub local_low: u32,
+    pub local_high: u32,
+    pub remote_low: u32,
+    pub remote_high: u32,
+    pub local_port_low: u16,
+    pub local_port_high: u16,
+    pub remote_port_low: u16,
+    pub remote_port_high: u16,
+    pub protocol_low: u8,
+    pub protocol_high: u8,
+    pub actions: u16,
+}
+
+// The number of the entry that catches a header, if one does.
+pub enum Caught {
+    By(usize),
+    Uncaught,
+}
+
+// The selector of e.
+pub fn selector_of(e: Entry) -> Region
+    ensures { λ r. ⌜ ranges r ≡ selector e ⌝ }
+{
+    Region {
+        local: Range {
+            low: e.local_low,
+            high: e.local_high,
+        },
+        remote: Range {
+            low: e.remote_low,
+            high: e.remote_high,
+        },
+        local_port: Range {
+            low: e.local_port_low as u32,
+            high: e.local_port_high as u32,
+        },
+        remote_port: Range {
+            low: e.remote_port_low as u32,
+            high: e.remote_port_high as u32,
+        },
+        protocol: Range {
+            low: e.protocol_low as u32,
+            high: e.protocol_high as u32,
+        },
+    }
+}
+
+// Whether e matches h.
+pub fn matches_header(e: Entry, h: Header) -> bool
+    ensures { λ r. ⌜ r ≡ matches e h ⌝ }
+{
+    holds(selector_of(e), h)
+}
+
+// Whether a range of e has its low above its high.
+pub fn is_crossed(e: Entry) -> bool
+    ensures { λ r. ⌜ r ≡ crossed e ⌝ }
+{
+    !is_proper(selector_of(e))
+}
