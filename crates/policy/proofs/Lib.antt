@@ -3,6 +3,6 @@ pub mod Order
 pub mod Least
 pub mod Box
 pub mod Branch
--- pub mod Actions
--- pub mod Policy
+pub mod ActionSets
+pub mod Policy
 pub mod Branches
