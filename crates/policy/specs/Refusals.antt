@@ -46,7 +46,7 @@ refuseAt r (At h) = some (refusal (r h))
 refuseAt r Nothing = none
 
 -- each refusal is returned when its condition holds and none earlier does; where none holds, the answer is a
-abbrev pub firstOf : List (Option Answer) → Answer → Answer
+abbrev pub firstOf : {A : Type 0} → List (Option A) → A → A
 firstOf [] a = a
 firstOf (some r ∷ rs) a = r
 firstOf (none ∷ rs) a = firstOf rs a
