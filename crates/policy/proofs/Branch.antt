@@ -15,7 +15,7 @@ use Rattle.policy.specs.Found.{lesser, minOver, minFrom}
 use Rattle.policy.specs.Least.{least, leastIn, always}
 use Rattle.policy.proofs.Bool.{case, clash, is-false, and-intro, and-left, and-right}
 use Rattle.policy.proofs.Box.{any, cut-is, meet-is, corner-in, in-proper, none-before}
-use Rattle.policy.proofs.Least.{agree, least-at, least-none, at-tells, over, over-from}
+use Rattle.policy.proofs.Least.{agree, union, lesser-assoc, least-at, least-none, at-tells, over, over-from}
 
 -- ---- extensionality
 
@@ -70,6 +70,29 @@ pieces P (p ∷ ps) h = ap ((lies p h && P h) ||_) (pieces P ps h) ∙ table (li
     table true true false = refl
     table true false false = refl
     table false c d = refl
+
+-- either of two properties
+pub leastIn-union : (hs : Headers) (x : Box) (P Q : Header → Bool) → leastIn hs x (λ h. P h || Q h) ≡ lesser (leastIn hs x P) (leastIn hs x Q)
+unfolding leastIn
+leastIn-union hs x P Q = ap (least hs) (fun-ext λ h. spread (lies x h) (P h) (Q h)) ∙ union hs (λ h. lies x h && P h) (λ h. lies x h && Q h)
+  where
+    spread : (a b c : Bool) → (a && (b || c)) ≡ (a && b || a && c)
+    spread true b c = refl
+    spread false b c = refl
+
+-- where Q leaves nothing below best, neither does a property that implies Q
+pub implied : (hs : Headers) (x : Box) (P Q : Header → Bool) (best : Found) → ((h : Header) → (P h || Q h) ≡ Q h)
+    → lesser (leastIn hs x Q) best ≡ best → lesser (leastIn hs x P) best ≡ best
+implied hs x P Q best f e =
+    ap (lesser (leastIn hs x P)) (sym e)
+    ∙ sym (lesser-assoc (leastIn hs x P) (leastIn hs x Q) best)
+    ∙ ap (λ (r : Found). lesser r best) (sym (leastIn-union hs x P Q) ∙ ap (leastIn hs x) (fun-ext f))
+    ∙ e
+
+-- a property that is asked for, or not
+pub leastIn-if : (hs : Headers) (b : Box) (P : Header → Bool) (w : Bool) → leastIn hs b (λ h. P h && w) ≡ cond w (leastIn hs b P) Nothing
+leastIn-if hs b P true = ap (leastIn hs b) (fun-ext λ h. and-true (P h))
+leastIn-if hs b P false = unfold leastIn in least-none hs (λ h. lies b h && (P h && false)) λ h a. ap (lies b h &&_) (and-false (P h)) ∙ and-false (lies b h)
 
 -- a search over several boxes is the least of the searches
 pub leastIn-over : (hs : Headers) (P : Header → Bool) (ps : List Box)

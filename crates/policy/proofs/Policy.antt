@@ -14,7 +14,7 @@ use Rattle.policy.specs.declared.entry.Caught.the-variants.{By, Uncaught
 use Rattle.policy.specs.Header.{Headers, among}
 use Rattle.policy.specs.Least.{least}
 use Rattle.policy.specs.Entry.{matches}
-use Rattle.policy.specs.Policy.{catcherFrom, catcher, Allowed, actions, uncaught, allowed, isCaught, caught, missed, part, Covering, Equivalent, Refines}
+use Rattle.policy.specs.Policy.{catcherFrom, catcher, Allowed, actions, uncaught, allowed, isCaught, caught, missed, exceeds, Covering, Equivalent, Refines}
 use Rattle.policy.proofs.Bool.{clash, not-false, and-intro}
 use Rattle.policy.proofs.Least.{least-none, none-tells}
 
@@ -147,9 +147,6 @@ pub covering-none : (hs : Headers) (p : List Entry) → Covering hs p → least 
 covering-none hs p c = least-none hs (missed p) λ h a. ap not (c h a)
 
 -- no header is allowed more by p than by q exactly if p refines q
-abbrev pub exceeds : List Entry → List Entry → Header → Bool
-exceeds p q h = not (part (allowed p h) (allowed q h))
-
 pub refines-by : (hs : Headers) (p q : List Entry) → least hs (exceeds p q) ≡ Nothing → Refines hs p q
 refines-by hs p q e h a = not-false (none-tells hs (exceeds p q) e h a)
 

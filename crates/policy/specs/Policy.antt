@@ -47,6 +47,10 @@ part (actions a) (actions b) = subset a b
 part (actions a) uncaught = false
 part uncaught b = true
 
+-- p allows the header an action that q does not
+abbrev pub exceeds : List Entry → List Entry → Header → Bool
+exceeds p q h = not (part (allowed p h) (allowed q h))
+
 -- Definition 1's condition on a policy: every header is caught (01: the list is covering)
 abbrev pub Covering : Headers → List Entry → Type 0
 Covering hs p = (h : Header) → among hs h ≡ true → caught p h ≡ true
