@@ -6,3 +6,4 @@ pub mod Branch
 pub mod ActionSets
 pub mod Policy
 pub mod Branches
+pub mod Rows

@@ -3,6 +3,7 @@ use Prim.Native.Nat.{ℕ}
 use mathlib.Core.Bool.{Bool, true, false}
 use mathlib.Core.List.{List, [], _∷_}
 use mathlib.Core.Option.{Option, none, some}
+use lib.Dec.{eqb}
 use Rattle.policy.specs.declared.header.Header.{Header}
 use Rattle.policy.specs.declared.header.Found.{Found}
 use Rattle.policy.specs.declared.header.Found.the-variants.{At, Nothing}
@@ -34,6 +35,10 @@ refusal (Narrow n) = record { number = 11; values = n ∷ [] }
 
 abbrev pub accepted : List ℕ → Answer
 accepted vs = record { number = 0; values = vs }
+
+-- none of the checks turned the call away
+abbrev pub isAccepted : Answer → Bool
+isAccepted a = eqb (a .number) 0
 
 -- a check refuses where its condition holds
 abbrev pub refuse : Bool → Refusal → Option Answer
