@@ -4,7 +4,7 @@ use Prim.Native.Nat.{ℕ, zero, suc, _<_}
 use native.Mathlib.Omega.{arith}
 use mathlib.Core.Path.{_≡_, refl, sym, _∙_, ap, subst, fun-ext}
 use mathlib.Core.Logic.{_⊎_, inl, inr}
-use mathlib.Core.Bool.{Bool, true, false, not, cond, _&&_, _||_, or-assoc}
+use mathlib.Core.Bool.{Bool, true, false, not, cond, _&&_, _||_, or-assoc, or-comm}
 use mathlib.Core.List.{List, [], _∷_}
 use lib.Dec.{ltb}
 use borrow.Author.Tests.{ltb-true, lt-ltb}
@@ -256,3 +256,10 @@ min-from z f (p ∷ ps) = ap (lesser (f p)) (min-from z f ps) ∙ sym (lesser-as
 pub lesser-last : (r : Found) → lesser r Nothing ≡ r
 lesser-last (At h) = refl
 lesser-last Nothing = refl
+
+-- the order of the two does not matter, nor taking one twice
+pub lesser-comm : (r s : Found) → lesser r s ≡ lesser s r
+lesser-comm r s =
+    unique (λ h. From r h || From s h) (lesser r s) (lesser s r)
+    (either (From r) (From s) r s (from-is r) (from-is s))
+    (subst (λ (P : Header → Bool). IsLeast P (lesser s r)) (fun-ext λ h. or-comm (From s h) (From r h)) (either (From s) (From r) s r (from-is s) (from-is r)))
