@@ -1,5 +1,7 @@
 // What is turned down: 01's table, in its order and by its words.
 use crate::header::Header;
+ghost use mathlib.Core.Path.{_≡_};
+ghost use Rattle.policy.specs.Refusals.{refusal};
 
 pub enum Refusal {
     Missized,
@@ -17,4 +19,23 @@ pub enum Refusal {
     Conflict(Header),
     // The length needed.
     Narrow(usize),
+}
+
+// 01's number of a refusal.
+pub fn number_of(r: Refusal) -> u8
+    ensures { λ n. ⌜ n ≡ refusal r .number ⌝ }
+{
+    match r {
+        Refusal::Missized => 1,
+        Refusal::Version => 2,
+        Refusal::Count => 3,
+        Refusal::Crossed(_) => 4,
+        Refusal::Gap(_) => 5,
+        Refusal::Party => 6,
+        Refusal::Vacant => 7,
+        Refusal::Bare => 8,
+        Refusal::Crowded => 9,
+        Refusal::Conflict(_) => 10,
+        Refusal::Narrow(_) => 11,
+    }
 }

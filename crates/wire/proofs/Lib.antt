@@ -1,1 +1,11 @@
 pub mod Places
+pub mod Answers
+pub mod Numbers
+pub mod Entries
+pub mod Records
+pub mod Checks
+pub mod Checked
+pub mod Lists
+pub mod Readings
+pub mod Writing
+pub mod RoundTrip

@@ -88,9 +88,18 @@ abbrev pub recordsOf : List Entry → List ℕ
 recordsOf [] = []
 recordsOf (e ∷ p) = recordOf e ++ recordsOf p
 
--- how long the file of n entries is, and a list's file
+-- a header's numbers as bytes: 4, 4, 2, 2 and 1
+abbrev pub headerBytes : List ℕ → List ℕ
+headerBytes v = bytes4 (getD v 0 0) ++ bytes4 (getD v 1 0) ++ bytes2 (getD v 2 0) ++ bytes2 (getD v 3 0) ++ getD v 4 0 ∷ []
+
+-- how long the file of n entries is
 abbrev pub fileSize : ℕ → ℕ
 fileSize n = headSize + recordSize * n
 
+-- the bytes before the records: L, the version and n
+abbrev pub headOf : ℕ → List ℕ
+headOf n = bytes2 (3 + recordSize * n) ++ version ∷ bytes2 n
+
+-- a list's file
 abbrev pub fileOf : List Entry → List ℕ
-fileOf p = bytes2 (3 + recordSize * length p) ++ version ∷ bytes2 (length p) ++ recordsOf p
+fileOf p = headOf (length p) ++ recordsOf p

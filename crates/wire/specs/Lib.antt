@@ -1,1 +1,5 @@
 pub mod Format
+pub mod Answers
+pub mod Checks
+pub mod Lists
+pub mod Writing

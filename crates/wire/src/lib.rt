@@ -1,4 +1,10 @@
-// The file: its numbers and records.
+// The file: its numbers, records and checks, reading it and writing it.
+pub mod check;
 pub mod format;
+pub mod header;
+pub mod list;
 pub mod number;
+pub mod put;
+pub mod read;
 pub mod record;
+pub mod write;

@@ -93,3 +93,39 @@ pub fn read_entry(s: &[u8], at: usize) -> Entry
         actions: read2(s, at + 26),
     }
 }
+
+// The record of an entry.
+pub fn record_of(e: Entry) -> [u8; 28]
+    ensures { λ r. ⌜ r ≡ recordOf e ⌝ }
+{
+    [
+        (e.local_low / 16777216 % 256) as u8,
+        (e.local_low / 65536 % 256) as u8,
+        (e.local_low / 256 % 256) as u8,
+        (e.local_low % 256) as u8,
+        (e.local_high / 16777216 % 256) as u8,
+        (e.local_high / 65536 % 256) as u8,
+        (e.local_high / 256 % 256) as u8,
+        (e.local_high % 256) as u8,
+        (e.remote_low / 16777216 % 256) as u8,
+        (e.remote_low / 65536 % 256) as u8,
+        (e.remote_low / 256 % 256) as u8,
+        (e.remote_low % 256) as u8,
+        (e.remote_high / 16777216 % 256) as u8,
+        (e.remote_high / 65536 % 256) as u8,
+        (e.remote_high / 256 % 256) as u8,
+        (e.remote_high % 256) as u8,
+        (e.local_port_low / 256 % 256) as u8,
+        (e.local_port_low % 256) as u8,
+        (e.local_port_high / 256 % 256) as u8,
+        (e.local_port_high % 256) as u8,
+        (e.remote_port_low / 256 % 256) as u8,
+        (e.remote_port_low % 256) as u8,
+        (e.remote_port_high / 256 % 256) as u8,
+        (e.remote_port_high % 256) as u8,
+        e.protocol_low,
+        e.protocol_high,
+        (e.actions / 256 % 256) as u8,
+        (e.actions % 256) as u8,
+    ]
+}

@@ -1,24 +1,18 @@
+-- The two numbers are read 4 bytes apart.
 use Rattle.policy.proofs.Branches.{ends-are}
 use borrow.Author.Needs.{needs}
 use Rattle.wire.proofs.record.read_addresses.Statement.{statement}
 use Rattle.wire.proofs.record.read_addresses.Tie as tie
-use Rattle.wire.proofs.record.read_addresses.Reads as reads
-use Rattle.wire.proofs.record.read_addresses.Lts as lts
-use Rattle.wire.proofs.number.read4.Reads as read4-reads
 
--- src/record.rt:21:14
 read4-requires : tie.Need-read4-requires
 read4-requires c κs = search needs
 
--- src/record.rt:22:24
 add-read4 : tie.Need-add-read4
 add-read4 c = search needs
 
--- src/record.rt:22:15
 read4-requires-2 : tie.Need-read4-requires-2
 read4-requires-2 c κs = search needs
 
--- src/record.rt:16:1
 returns : tie.Need-returns
 returns c = ends-are (search needs) (search needs)
 

@@ -1,96 +1,71 @@
+-- Each number is read at its place in the record.
 use borrow.Author.Needs.{needs}
 use Rattle.wire.proofs.record.read_entry.Statement.{statement}
 use Rattle.wire.proofs.record.read_entry.Tie as tie
-use Rattle.wire.proofs.record.read_entry.Reads as reads
-use Rattle.wire.proofs.record.read_entry.Lts as lts
-use Rattle.wire.proofs.number.read2.Reads as read2-reads
-use Rattle.wire.proofs.number.read4.Reads as read4-reads
 
--- src/record.rt:83:20
 read4-requires : tie.Need-read4-requires
 read4-requires c κs = search needs
 
--- src/record.rt:84:30
 add-read4 : tie.Need-add-read4
 add-read4 c = search needs
 
--- src/record.rt:84:21
 read4-requires-2 : tie.Need-read4-requires-2
 read4-requires-2 c κs = search needs
 
--- src/record.rt:85:30
 add-read4-2 : tie.Need-add-read4-2
 add-read4-2 c = search needs
 
--- src/record.rt:85:21
 read4-requires-3 : tie.Need-read4-requires-3
 read4-requires-3 c κs = search needs
 
--- src/record.rt:86:31
 add-read4-3 : tie.Need-add-read4-3
 add-read4-3 c = search needs
 
--- src/record.rt:86:22
 read4-requires-4 : tie.Need-read4-requires-4
 read4-requires-4 c κs = search needs
 
--- src/record.rt:87:34
 add-read2 : tie.Need-add-read2
 add-read2 c = search needs
 
--- src/record.rt:87:25
 read2-requires : tie.Need-read2-requires
 read2-requires c κs = search needs
 
--- src/record.rt:88:35
 add-read2-2 : tie.Need-add-read2-2
 add-read2-2 c = search needs
 
--- src/record.rt:88:26
 read2-requires-2 : tie.Need-read2-requires-2
 read2-requires-2 c κs = search needs
 
--- src/record.rt:89:35
 add-read2-3 : tie.Need-add-read2-3
 add-read2-3 c = search needs
 
--- src/record.rt:89:26
 read2-requires-3 : tie.Need-read2-requires-3
 read2-requires-3 c κs = search needs
 
--- src/record.rt:90:36
 add-read2-4 : tie.Need-add-read2-4
 add-read2-4 c = search needs
 
--- src/record.rt:90:27
 read2-requires-4 : tie.Need-read2-requires-4
 read2-requires-4 c κs = search needs
 
--- src/record.rt:91:25
 add-t18 : tie.Need-add-t18
 add-t18 c = search needs
 
--- src/record.rt:91:23
 shared-slice-read-t20 : tie.Need-shared-slice-read-t20
 shared-slice-read-t20 c = search needs
 
--- src/record.rt:92:26
 add-t21 : tie.Need-add-t21
 add-t21 c = search needs
 
--- src/record.rt:92:24
 shared-slice-read-t23 : tie.Need-shared-slice-read-t23
 shared-slice-read-t23 c = search needs
 
--- src/record.rt:93:27
 add-read2-5 : tie.Need-add-read2-5
 add-read2-5 c = search needs
 
--- src/record.rt:93:18
 read2-requires-5 : tie.Need-read2-requires-5
 read2-requires-5 c κs = search needs
 
--- src/record.rt:78:1
 returns : tie.Need-returns
 returns c = simp (c .before .before .before .before .before .before .before .before .before .before .read4 .ensures, c .before .before .before .before .before .before .before .before .before .read42 .ensures, c .before .before .before .before .before .before .before .before .read43 .ensures, c .before .before .before .before .before .before .before .read44 .ensures, c .before .before .before .before .before .before .read2 .ensures, c .before .before .before .before .before .read22 .ensures, c .before .before .before .before .read23 .ensures, c .before .before .before .read24 .ensures, c .read25 .ensures)
 

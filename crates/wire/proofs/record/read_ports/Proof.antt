@@ -1,32 +1,24 @@
+-- The two numbers are read 2 bytes apart.
 use Rattle.policy.proofs.Branches.{ends-are}
 use borrow.Author.Needs.{needs}
 use Rattle.wire.proofs.record.read_ports.Statement.{statement}
 use Rattle.wire.proofs.record.read_ports.Tie as tie
-use Rattle.wire.proofs.record.read_ports.Reads as reads
-use Rattle.wire.proofs.record.read_ports.Lts as lts
-use Rattle.wire.proofs.number.read2.Reads as read2-reads
 
--- src/record.rt:32:14
 read2-requires : tie.Need-read2-requires
 read2-requires c κs = search needs
 
--- src/record.rt:32:14
 cast-t4 : tie.Need-cast-t4
 cast-t4 c = search needs
 
--- src/record.rt:33:24
 add-read2 : tie.Need-add-read2
 add-read2 c = search needs
 
--- src/record.rt:33:15
 read2-requires-2 : tie.Need-read2-requires-2
 read2-requires-2 c κs = search needs
 
--- src/record.rt:33:15
 cast-t7 : tie.Need-cast-t7
 cast-t7 c = search needs
 
--- src/record.rt:27:1
 returns : tie.Need-returns
 returns c = ends-are (search needs) (search needs)
 

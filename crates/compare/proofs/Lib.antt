@@ -1,0 +1,2 @@
+pub mod TooMuch
+pub mod Rows

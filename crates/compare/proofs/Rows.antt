@@ -1,0 +1,69 @@
+-- The checks of two files in their order, each said of its file.
+-- Assumes nothing.
+use Prim.Native.Nat.{ℕ, _-_}
+use mathlib.Core.Path.{_≡_, refl, sym, _∙_, ap, ap₂}
+use mathlib.Core.List.{List, [], _∷_, _++_, map, append-nil}
+use mathlib.Core.Option.{Option, none, some}
+use lib.ListN.{length, take, drop}
+use Rattle.policy.specs.declared.header.Header.{Header}
+use Rattle.policy.specs.declared.header.Found.{Found}
+use Rattle.policy.specs.declared.header.Found.the-variants.{At, Nothing}
+use Rattle.policy.specs.declared.refusal.Refusal.{Refusal}
+use Rattle.policy.specs.Refusals.{Answer, refusal, accepted, firstOf}
+use Rattle.policy.proofs.Rows.{Pass, refusal-clash}
+use Rattle.wire.specs.declared.check.Checked.{Checked}
+use Rattle.wire.specs.declared.check.Checked.the-variants.{Good, Refused}
+use Rattle.wire.specs.Format.{headSize, listLimit, countIn, listIn}
+use Rattle.wire.specs.Checks.{checked}
+use Rattle.region.specs.Records.{recordsIn}
+use Rattle.region.specs.ListChecks.{listChecks, listChecksOf}
+use Rattle.region.proofs.ListChecks.{GoodList, passes-tell, good-passes, lent-records}
+use Rattle.compare.specs.Comparison.{FileAnswer, compared, about, excessOf, verdict, comparisonOf}
+use Rattle.compare.specs.declared.files.Compared.the-variants.{Refines, Exceeds, First, Second}
+
+-- a refusal is said of its file, whatever comes after
+refused-first : (k : ℕ) (rs : List (Option Answer)) (vs : List ℕ) (x : Refusal) (qs : List (Option FileAnswer)) (a : FileAnswer)
+    → refusal x ≡ firstOf rs (accepted vs) → record { file = k; answer = refusal x } ≡ firstOf (map (about k) rs ++ qs) a
+refused-first k [] vs x qs a e = refusal-clash x vs e
+refused-first k (some y ∷ rs) vs x qs a e = ap (λ (y : Answer). record { file = k; answer = y }) e
+refused-first k (none ∷ rs) vs x qs a e = refused-first k rs vs x qs a e
+
+-- where none refuses, what comes after decides
+passed-first : (k : ℕ) (rs : List (Option Answer)) (qs : List (Option FileAnswer)) (a : FileAnswer) → Pass rs → firstOf (map (about k) rs ++ qs) a ≡ firstOf qs a
+passed-first k [] qs a p = refl
+passed-first k (some y ∷ rs) qs a p = absurd p
+passed-first k (none ∷ rs) qs a p = passed-first k rs qs a p
+
+module _ (s t : List ℕ) where
+  pub first-refused : (r : Checked) (x : Refusal) → checked r ≡ listChecksOf s listLimit → r ≡ Refused x → compared (First x) ≡ comparisonOf s t
+  unfolding comparisonOf listChecksOf
+  first-refused r x e g =
+      refused-first 1 (listChecks s listLimit) (countIn s ∷ []) x (map (about 2) (listChecks t listLimit)) (verdict (excessOf (listIn s) (listIn t))) (sym (ap checked g) ∙ e)
+
+  module _ (r : Checked) (n : ℕ) (e : checked r ≡ listChecksOf s listLimit) (g : r ≡ Good n) where
+    second-decides : firstOf (map (about 2) (listChecks t listLimit)) (verdict (excessOf (listIn s) (listIn t))) ≡ comparisonOf s t
+    unfolding comparisonOf
+    second-decides =
+        sym (passed-first 1 (listChecks s listLimit) (map (about 2) (listChecks t listLimit)) (verdict (excessOf (listIn s) (listIn t))) (good-passes s listLimit r n e g))
+
+    pub second-refused : (q : Checked) (x : Refusal) → checked q ≡ listChecksOf t listLimit → q ≡ Refused x → compared (Second x) ≡ comparisonOf s t
+    unfolding listChecksOf
+    second-refused q x f h =
+        refused-first 2 (listChecks t listLimit) (countIn t ∷ []) x [] (verdict (excessOf (listIn s) (listIn t))) (sym (ap checked h) ∙ f)
+        ∙ ap (λ (l : List (Option FileAnswer)). firstOf l (verdict (excessOf (listIn s) (listIn t)))) (append-nil (map (about 2) (listChecks t listLimit)))
+        ∙ second-decides
+
+    module _ (q : Checked) (m : ℕ) (f : checked q ≡ listChecksOf t listLimit) (h : q ≡ Good m) (c : Found)
+        (w : c ≡ excessOf (recordsIn (take (length s - headSize) (drop headSize s))) (recordsIn (take (length t - headSize) (drop headSize t)))) where
+      both-good : verdict c ≡ comparisonOf s t
+      both-good =
+          ap verdict (w ∙ ap₂ excessOf (lent-records s listLimit (countIn s) (passes-tell s listLimit (good-passes s listLimit r n e g) .good)) (lent-records t listLimit (countIn t) (passes-tell t listLimit (good-passes t listLimit q m f h) .good)))
+          ∙ sym (passed-first 2 (listChecks t listLimit) [] (verdict (excessOf (listIn s) (listIn t))) (good-passes t listLimit q m f h))
+          ∙ ap (λ (l : List (Option FileAnswer)). firstOf l (verdict (excessOf (listIn s) (listIn t)))) (append-nil (map (about 2) (listChecks t listLimit)))
+          ∙ second-decides
+
+      pub says-refines : c ≡ Nothing → compared Refines ≡ comparisonOf s t
+      says-refines z = ap verdict (sym z) ∙ both-good
+
+      pub says-exceeds : (k : Header) → c ≡ At k → compared (Exceeds k) ≡ comparisonOf s t
+      says-exceeds k z = ap verdict (sym z) ∙ both-good

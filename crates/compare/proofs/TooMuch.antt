@@ -1,0 +1,114 @@
+-- What the loop over the first list's records finds: an entry's part of it by first match in the second list, and then the rest.
+-- Assumes nothing.
+use Prim.Native.Nat.{ℕ, _+_, _*_, _-_, _/_, _<_, _≤_}
+use native.Mathlib.Omega.{arith}
+use native.Mathlib.Numerals.{add-one}
+use mathlib.Core.Path.{_≡_, refl, sym, _∙_, ap, ap₂, fun-ext}
+use mathlib.Core.Bool.{Bool, true, false, _&&_}
+use mathlib.Core.List.{List, [], _∷_, _++_}
+use lib.ListN.{length, getD, take, drop, drop-of-length-le}
+use lib.Seq.{take-suc, take-at, drop-cons}
+use Rattle.policy.specs.declared.header.Header.{Header}
+use Rattle.policy.specs.declared.header.Found.{Found}
+use Rattle.policy.specs.declared.header.Found.the-variants.{Nothing}
+use Rattle.policy.specs.declared.region.Region.{Region}
+use Rattle.policy.specs.declared.entry.Entry.{Entry}
+use Rattle.policy.specs.Box.{meet}
+use Rattle.policy.specs.Header.{arity, fields, Box, lies, ranges, everything, Headers, headers}
+use Rattle.policy.specs.Found.{lesser}
+use Rattle.policy.specs.Least.{leastIn}
+use Rattle.policy.specs.Entry.{selector}
+use Rattle.policy.specs.Policy.{allowed, missed, exceeds}
+use Rattle.policy.proofs.Box.{meet-is}
+use Rattle.policy.proofs.Least.{agree, lesser-assoc, lesser-comm, lesser-last}
+use Rattle.wire.specs.Format.{recordSize, entryAt, entriesFrom}
+use Rattle.wire.proofs.Entries.{length-entries, entries-at, entries-split}
+use Rattle.region.specs.declared.treated.Sets.the-variants.{Lacking}
+use Rattle.region.specs.Records.{recordsIn}
+use Rattle.region.specs.Treated.{judged}
+use Rattle.region.proofs.Union.{in-everything, least-everywhere}
+use Rattle.region.proofs.Uses.{exceeds-step, exceeds-end}
+use Rattle.region.proofs.Judging.{firsts-in}
+use Rattle.compare.specs.Comparison.{excessOf}
+
+-- a box is its part in the box of everything
+everywhere : (hs : Headers) (b : Box) (P : Header → Bool) → leastIn hs (meet arity everything b) P ≡ leastIn hs b P
+unfolding leastIn
+everywhere hs b P = agree hs (λ h. lies (meet arity everything b) h && P h) (λ h. lies b h && P h) λ h a. ap (_&& P h) (meet-is arity everything b (fields h) ∙ ap (_&& lies b h) (in-everything hs h a))
+
+module _ (s t : List ℕ) where
+  -- what is left to be found behind the first i records of the first list
+  abbrev rest : ℕ → Found
+  rest i = leastIn headers everything (λ h. missed (take i (recordsIn s)) h && exceeds (drop i (recordsIn s)) (recordsIn t) h)
+
+  -- with that, what was found so far is the answer
+  abbrev pub FoundUpTo : Found → ℕ → Type 0
+  FoundUpTo found i =
+      excessOf (recordsIn s) (recordsIn t) ≡ lesser (leastIn headers everything (λ h. missed (take i (recordsIn s)) h && exceeds (drop i (recordsIn s)) (recordsIn t) h)) found
+
+  pub found-none : FoundUpTo Nothing 0
+  found-none = sym (lesser-last (rest 0) ∙ least-everywhere headers (exceeds (recordsIn s) (recordsIn t)))
+
+  pub found-next : (found r : Found) (i set : ℕ) (sel : Region) → i < length s / recordSize → FoundUpTo found i
+      → ranges sel ≡ selector (entryAt s (recordSize * i)) → set ≡ entryAt s (recordSize * i) .actions
+      → r ≡ lesser (leastIn headers (ranges sel) (λ h. missed (recordsIn (take (recordSize * i - 0) s)) h && judged (Lacking set) true (allowed (recordsIn t) h))) found
+      → FoundUpTo r (i + 1)
+  found-next found r i set sel l e u v f =
+      e
+      ∙ ap (λ (c : Found). lesser c found)
+      (ap (λ (p : List Entry). leastIn headers everything (λ h. missed (take i (recordsIn s)) h && exceeds p (recordsIn t) h)) suffix
+      ∙ exceeds-step headers everything (take i (recordsIn s)) x (drop (i + 1) (recordsIn s)) (recordsIn t)
+      ∙ ap₂ lesser (everywhere headers (selector x) (λ h. missed (take i (recordsIn s)) h && judged (Lacking (x .actions)) true (allowed (recordsIn t) h)))
+      (ap (λ (p : List Entry). leastIn headers everything (λ h. missed p h && exceeds (drop (i + 1) (recordsIn s)) (recordsIn t) h)) (sym prefix))
+      ∙ lesser-comm own (rest (i + 1)))
+      ∙ lesser-assoc (rest (i + 1)) own found
+      ∙ ap (lesser (rest (i + 1))) (sym (f ∙ ap (λ (c : Found). lesser c found) same))
+    where
+      x : Entry
+      x = entryAt s (recordSize * i)
+
+      own : Found
+      own = leastIn headers (selector x) (λ h. missed (take i (recordsIn s)) h && judged (Lacking (x .actions)) true (allowed (recordsIn t) h))
+
+      short : i < length (recordsIn s)
+      short = go (length s / recordSize) (length (recordsIn s)) l (length-entries s 0 (length s / recordSize))
+        where
+          go : (n m : ℕ) → i < n → m ≡ n → i < m
+          go n m l e = omega arith
+
+      at-start : (n : ℕ) → 0 + n ≡ n
+      at-start n = omega arith
+
+      no-start : (n : ℕ) → n - 0 ≡ n
+      no-start n = omega arith
+
+      small : (n : ℕ) → i < n → i ≤ n
+      small n l = omega arith
+
+      here : getD (recordsIn s) i (entryAt s 0) ≡ x
+      here = entries-at s 0 (length s / recordSize) i (entryAt s 0) l ∙ ap (entryAt s) (at-start (recordSize * i))
+
+      prefix : take (i + 1) (recordsIn s) ≡ take i (recordsIn s) ++ x ∷ []
+      prefix = ap (λ (n : ℕ). take n (recordsIn s)) (add-one i) ∙ take-suc (recordsIn s) i (entryAt s 0) short ∙ ap (λ (e : Entry). take i (recordsIn s) ++ e ∷ []) here
+
+      suffix : drop i (recordsIn s) ≡ x ∷ drop (i + 1) (recordsIn s)
+      suffix = drop-cons (recordsIn s) i (entryAt s 0) short ∙ ap₂ (λ (e : Entry) (n : ℕ). e ∷ drop n (recordsIn s)) here (sym (add-one i))
+
+      first : entriesFrom s 0 i ≡ take i (recordsIn s)
+      first = sym (ap (take i) (ap (entriesFrom s 0) (parts (length s / recordSize) l) ∙ entries-split s 0 i (length s / recordSize - i)) ∙ take-at (entriesFrom s 0 i) (entriesFrom s (0 + recordSize * i) (length s / recordSize - i)) i (length-entries s 0 i))
+        where
+          parts : (n : ℕ) → i < n → n ≡ i + (n - i)
+          parts n l = omega arith
+
+      same : leastIn headers (ranges sel) (λ h. missed (recordsIn (take (recordSize * i - 0) s)) h && judged (Lacking set) true (allowed (recordsIn t) h)) ≡ own
+      same = ap₂ (λ (b : Box) (P : Header → Bool). leastIn headers b P) u
+          (fun-ext λ h. ap₂ (λ (p : List Entry) (n : ℕ). missed p h && judged (Lacking n) true (allowed (recordsIn t) h)) (firsts-in s i (recordSize * i - 0) (small (length s / recordSize) l) (no-start (recordSize * i)) ∙ first) v)
+
+  pub found-all : (found : Found) (i : ℕ) → length s / recordSize ≤ i → FoundUpTo found i → found ≡ excessOf (recordsIn s) (recordsIn t)
+  found-all found i l e =
+      sym (e ∙ ap (λ (c : Found). lesser c found)
+      (ap (λ (p : List Entry). leastIn headers everything (λ h. missed (take i (recordsIn s)) h && exceeds p (recordsIn t) h)) (drop-of-length-le (recordsIn s) (long (length s / recordSize) (length (recordsIn s)) (length-entries s 0 (length s / recordSize)) l))
+      ∙ exceeds-end headers everything (take i (recordsIn s)) (recordsIn t)))
+    where
+      long : (n m : ℕ) → m ≡ n → n ≤ i → m ≤ i
+      long n m e l = omega arith

@@ -1,0 +1,33 @@
+// The least header that one list of records allows an action that another does not.
+use policy::header::Found;
+use region::treated::Sets;
+use region::treated::least_treated;
+use wire::format::RECORD_SIZE;
+use wire::record::read_actions;
+use wire::record::read_selector;
+ghost use mathlib.Core.Path.{_≡_};
+ghost use Rattle.region.specs.Records.{recordsIn};
+ghost use Rattle.compare.specs.Comparison.{excessOf};
+
+// The least header that the first list allows an action that the second does not. What an entry of the first catches is missed by those
+// before it, and is allowed too much where the second allows it a set that lacks an action of the entry.
+pub fn least_excess(first: &[u8], second: &[u8]) -> Found
+    ensures { λ r. ⌜ r ≡ excessOf (recordsIn (now (first .entry))) (recordsIn (now (second .entry))) ⌝ }
+{
+    let n = first.len() / RECORD_SIZE;
+    let mut found = Found::Nothing;
+    let mut i: usize = 0;
+    while i < n {
+        let at = RECORD_SIZE * i;
+        found = least_treated(
+            &first[0..at],
+            second,
+            read_selector(first, at),
+            Sets::Lacking(read_actions(first, at)),
+            true,
+            found,
+        );
+        i += 1;
+    }
+    found
+}

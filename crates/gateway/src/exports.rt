@@ -1,0 +1,71 @@
+// Lookup and comparison for C, over byte slices and numbers.
+use compare::files::Compared;
+use compare::files::compare_files;
+use lookup::file::Looked;
+use lookup::file::lookup_number;
+use policy::header::Header;
+use policy::refusal::number_of;
+use wire::header::header_bytes;
+use wire::put::put_bytes;
+ghost use mathlib.Core.Path.{_≡_};
+ghost use mathlib.Core.List.{List};
+ghost use Prim.Native.Nat.{ℕ};
+ghost use Rattle.policy.specs.Header.{header};
+ghost use Rattle.policy.specs.Refusals.{numbers};
+ghost use Rattle.lookup.specs.Lookup.{lookupOf};
+ghost use Rattle.compare.specs.Comparison.{comparisonOf};
+ghost use Rattle.gateway.specs.Exports.{lookupNumber, comparisonNumber, headerLent, headerPut};
+
+// The number of the entry that catches the header, 256 if none does, or 256 plus the number of the refusal.
+#[no_mangle]
+pub extern "C" fn policy_lookup(
+    file: &[u8],
+    local: u32,
+    remote: u32,
+    local_port: u16,
+    remote_port: u16,
+    protocol: u8,
+) -> u32
+    ensures { λ r. ⌜ r ≡ lookupNumber (lookupOf (now (file .entry)) (header (local, (remote, («local_port», («remote_port», (protocol, tt))))))) ⌝ }
+{
+    let h = Header {
+        local,
+        remote,
+        local_port,
+        remote_port,
+        protocol,
+    };
+    match lookup_number(file, h) {
+        Looked::Entry(i) => i as u32,
+        Looked::Uncaught => 256,
+        Looked::Refused(r) => 256 + number_of(r) as u32,
+    }
+}
+
+// Puts the header at the start of the buffer, if it has 13 bytes.
+fn put_header(buffer: &mut [u8], h: Header)
+    ensures { λ _. ⌜ now (buffer .exit) ≡ headerPut (numbers h) (now (buffer .entry)) ⌝ }
+{
+    if 13 <= buffer.len() {
+        let bytes = header_bytes(h);
+        put_bytes(buffer, 0, &bytes);
+    }
+}
+
+// 0 if the first file refines the second, 1 if it does not, or the file's number times 256 plus the number of the refusal.
+// On 1 the least header where it does not goes to the first 13 bytes of the buffer, if it has 13.
+#[no_mangle]
+pub extern "C" fn policy_compare(first: &[u8], second: &[u8], buffer: &mut [u8]) -> u32
+    ensures { λ r. ⌜ _≡_ {A = ℕ × List ℕ} (r, now (buffer .exit))
+        (comparisonNumber (comparisonOf (now (first .entry)) (now (second .entry))), headerLent (comparisonOf (now (first .entry)) (now (second .entry))) (now (buffer .entry))) ⌝ }
+{
+    match compare_files(first, second) {
+        Compared::Refines => 0,
+        Compared::Exceeds(h) => {
+            put_header(buffer, h);
+            1
+        }
+        Compared::First(r) => 256 + number_of(r) as u32,
+        Compared::Second(r) => 512 + number_of(r) as u32,
+    }
+}

@@ -1,0 +1,6 @@
+pub mod Within
+pub mod FirstMatch
+pub mod PackedMatch
+pub mod FileLookup
+pub mod TableLookup
+pub mod Examples

@@ -1,0 +1,56 @@
+-- Lookup in a file (01, "Lookup and comparison").
+use Prim.Native.Nat.{ℕ, _+_, _*_}
+use mathlib.Core.Bool.{cond}
+use mathlib.Core.List.{List, [], _∷_}
+use lib.ListN.{take, drop}
+use denote.Ref.{RefT, now}
+use Rattle.policy.specs.declared.header.Header.{Header}
+use Rattle.policy.specs.declared.entry.Caught.{Caught}
+use Rattle.policy.specs.declared.entry.Caught.the-variants.{By, Uncaught as Nobody}
+use Rattle.policy.specs.Policy.{catcher}
+use Rattle.policy.specs.Refusals.{Answer, refusal, accepted, isAccepted, firstOf}
+use Rattle.wire.specs.Format.{headSize, recordSize, listLimit, listIn}
+use Rattle.wire.specs.Checks.{fileChecks, checksOf}
+use Rattle.lookup.specs.declared.file.Looked.{Looked}
+use Rattle.lookup.specs.declared.file.Looked.the-variants.{Entry, Uncaught, Refused}
+
+-- the values of an accepted answer: the number of the entry that catches the header, if one does
+abbrev pub caughtValues : Caught → List ℕ
+caughtValues (By i) = i ∷ []
+caughtValues Nobody = []
+
+-- the companion call's answer in 01's terms
+abbrev pub looked : Looked → Answer
+looked (Entry i) = accepted (i ∷ [])
+looked Uncaught = accepted []
+looked (Refused r) = refusal r
+
+-- lookup: checks 1 to 4 of a file of up to 256 entries, then Definition 3 over the list that the file holds
+abbrev pub lookupOf : List ℕ → Header → Answer
+lookupOf s h = firstOf (fileChecks s listLimit) (accepted (caughtValues (catcher (listIn s) h)))
+
+-- a part of a slice: where it starts, and how many bytes it has
+pub record Part : Type 0 where
+  pub start : ℕ
+  pub size : ℕ
+
+-- the part of length zero at the start
+abbrev pub noPart : Part
+noPart = record { start = 0; size = 0 }
+
+-- the catching record's part of a file
+abbrev pub recordPart : Caught → Part
+recordPart (By i) = record { start = headSize + recordSize * i; size = recordSize }
+recordPart Nobody = noPart
+
+-- the part that lookup hands back, also where the file is refused
+abbrev pub partFor : List ℕ → Header → Part
+partFor s h = cond (isAccepted (checksOf s listLimit)) (recordPart (catcher (listIn s) h)) noPart
+
+-- a lent slice: its place in memory, and its bytes
+abbrev pub lent : RefT (List ℕ) → (ℕ × ℕ) × List ℕ
+lent r = (r .ptr, now r)
+
+-- that part of a lent slice
+abbrev pub lentPart : RefT (List ℕ) → Part → (ℕ × ℕ) × List ℕ
+lentPart r p = ((r .ptr .0, r .ptr .1 + p .start), take (p .size) (drop (p .start) (now r)))

@@ -1,0 +1,21 @@
+// First match in a lent table of unpacked entries.
+use policy::entry::Caught;
+use policy::entry::Entry;
+use policy::entry::matches_header;
+use policy::header::Header;
+ghost use mathlib.Core.Path.{_≡_};
+ghost use Rattle.policy.specs.Policy.{catcher};
+
+// The first entry of the table that matches h (Definition 3 of 004).
+pub fn lookup_table(table: &[Entry], h: Header) -> Caught
+    ensures { λ r. ⌜ r ≡ catcher (now (table .entry)) h ⌝ }
+{
+    let mut i = 0;
+    while i < table.len() {
+        if matches_header(table[i], h) {
+            return Caught::By(i);
+        }
+        i += 1;
+    }
+    Caught::Uncaught
+}

@@ -1,0 +1,16 @@
+pub mod Decide
+pub mod Common
+pub mod Crossing
+pub mod Drop
+pub mod Pass
+pub mod Striking
+pub mod Judged
+pub mod Crossproduct
+pub mod Lexicographic
+pub mod Merging
+pub mod Packing
+pub mod Staging
+pub mod Finishing
+pub mod Writing
+pub mod Model
+pub mod Examples

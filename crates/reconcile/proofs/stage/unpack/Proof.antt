@@ -1,0 +1,59 @@
+-- After i turns the first i places hold the first i records, and the others are empty.
+use mathlib.Core.Path.{_≡_, refl}
+use Prim.Native.Nat.{_≤_, _-_}
+use borrow.Author.Needs.{needs}
+use Rattle.reconcile.proofs.Staging.{places, places-next, places-listed}
+use Rattle.reconcile.proofs.stage.unpack.Statement.{statement}
+use Rattle.reconcile.proofs.stage.unpack.Tie as tie
+
+abbrev Inv-loop : tie.InvT-loop
+Inv-loop packed n entries₀ i₀ entries i = (i ≤ n) × (entries ≡ places packed i)
+
+abbrev μ-loop : tie.MeasureT-loop
+μ-loop packed n entries₀ i₀ entries i = n - i
+
+loop-holds : tie.Need-loop-holds Inv-loop μ-loop
+loop-holds c = (search needs, refl)
+
+mul-read-entry : tie.Need-mul-read-entry Inv-loop μ-loop
+mul-read-entry c = search needs
+
+read-entry-requires : tie.Need-read-entry-requires Inv-loop μ-loop
+read-entry-requires c κs = search needs
+
+mul-entries : tie.Need-mul-entries Inv-loop μ-loop
+mul-entries c = search needs
+
+array-set-from-entries : tie.Need-array-set-from-entries Inv-loop μ-loop
+array-set-from-entries c = search needs
+
+add-i : tie.Need-add-i Inv-loop μ-loop
+add-i c = search needs
+
+loop-less : tie.Need-loop-less Inv-loop μ-loop
+loop-less c = search needs
+
+loop-again : tie.Need-loop-again Inv-loop μ-loop
+loop-again c = (search needs, let l = c .before .before .loop in places-next (c .before .before .before .before .args .packed .now) (l .entries) _ (l .i) (search needs) (c .read-entry .ensures) (l .inv .1))
+
+returns : tie.Need-returns Inv-loop μ-loop
+returns c =
+    let a = c .before .before .before .args in
+    let l = c .before .loop in
+    places-listed (a .packed .now) (l .entries) (a .n) (l .i) (search needs) (l .inv .1)
+
+pub unpack-spec : {M : Type 1} → statement M
+unpack-spec =
+    tie.close
+    (tie.spec
+    Inv-loop
+    μ-loop
+    loop-holds
+    mul-read-entry
+    read-entry-requires
+    mul-entries
+    array-set-from-entries
+    add-i
+    loop-less
+    loop-again
+    returns)

@@ -1,0 +1,67 @@
+-- Refusals 8 to 11 and the merged file (01, "What is turned down" and "Merging").
+use Prim.Native.Nat.{ℕ}
+use mathlib.Core.Bool.{Bool, true, false}
+use mathlib.Core.List.{List, [], _∷_}
+use mathlib.Core.Option.{Option}
+use lib.ListN.{length}
+use Rattle.policy.specs.declared.entry.Entry.{Entry}
+use Rattle.policy.specs.declared.refusal.Refusal.the-variants.{Bare, Crowded, Conflict}
+use Rattle.policy.specs.Header.{Headers}
+use Rattle.policy.specs.Refusals.{Answer, refusal, accepted, refuse, refuseAt, firstOf}
+use Rattle.wire.specs.Format.{fileSize, fileOf}
+use Rattle.wire.specs.Answers.{ifAccepted}
+use Rattle.wire.specs.Writing.{placed, tooNarrow}
+use Rattle.reconcile.specs.declared.ending.Merged.{Merged}
+use Rattle.reconcile.specs.declared.ending.Merged.the-variants.{Done, Refused}
+use Rattle.reconcile.specs.Rules.{Working, list, crowded, working, conflictOf, struck, Merging, bare, overfull, conflict, merged}
+
+-- the answer: 8, 9, 10 or 11, or the file's entry count and length
+abbrev pub answerOf : Merging → List ℕ → Answer
+answerOf bare buffer = refusal Bare
+answerOf overfull buffer = refusal Crowded
+answerOf (conflict h) buffer = refusal (Conflict h)
+answerOf (merged p) buffer = firstOf (tooNarrow (length p) buffer ∷ []) (accepted (length p ∷ fileSize (length p) ∷ []))
+
+-- the file of the merged list
+abbrev pub fileFor : Merging → List ℕ
+fileFor (merged p) = fileOf p
+fileFor bare = []
+fileFor overfull = []
+fileFor (conflict h) = []
+
+-- the answer, and the buffer's final contents: a refusal leaves it as it was
+abbrev pub mergingOf : Merging → List ℕ → Answer × List ℕ
+mergingOf m buffer = (answerOf m buffer, ifAccepted (answerOf m buffer) (placed (fileFor m) buffer) buffer)
+
+-- the same of the code's answer
+abbrev pub merging : Merged → List ℕ → Answer × List ℕ
+merging (Done n l) buffer = (accepted (n ∷ l ∷ []), buffer)
+merging (Refused r) buffer = (refusal r, buffer)
+
+-- ---- the answer as 01 orders the checks
+
+abbrev pub noList : List (List Entry) → Bool
+noList [] = true
+noList (p ∷ ps) = false
+
+abbrev pub isCrowded : Working → Bool
+isCrowded (list w) = false
+isCrowded crowded = true
+
+abbrev pub leftOf : Headers → Working → List Entry
+leftOf hs (list w) = struck hs w
+leftOf hs crowded = []
+
+-- the working list of the lists in force, if there is one
+abbrev pub workingOf : Headers → List (List Entry) → Working
+workingOf hs [] = list []
+workingOf hs (p ∷ ps) = working hs p ps
+
+-- 8, 9, 10, 11
+abbrev pub mergeChecks : Headers → List (List Entry) → List ℕ → List (Option Answer)
+mergeChecks hs ps buffer =
+    refuse (noList ps) Bare
+    ∷ refuse (isCrowded (workingOf hs ps)) Crowded
+    ∷ refuseAt Conflict (conflictOf hs ps)
+    ∷ tooNarrow (length (leftOf hs (workingOf hs ps))) buffer
+    ∷ []

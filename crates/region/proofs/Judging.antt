@@ -1,0 +1,219 @@
+-- What the code's branches show of a search by the entries of a list.
+-- Assumes nothing.
+use Prim.Native.Nat.{ℕ, suc, _<_, _≤_, _-_, _+_, _*_, _/_, min}
+use native.Mathlib.Omega.{arith}
+use mathlib.Core.Path.{_≡_, refl, sym, _∙_, ap, ap₂}
+use mathlib.Core.Bool.{Bool, true, false, not, cond}
+use mathlib.Core.List.{List, [], _∷_, _++_, append-nil, append-assoc}
+use lib.ListN.{length, take, length-take}
+use lib.Dec.{eqb}
+use Rattle.policy.specs.declared.header.Header.{Header}
+use Rattle.policy.specs.declared.header.Found.{Found}
+use Rattle.policy.specs.declared.header.Found.the-variants.{At, Nothing}
+use Rattle.policy.specs.declared.entry.Entry.{Entry}
+use Rattle.policy.specs.Row.{Row}
+use Rattle.policy.specs.Box.{meet}
+use Rattle.policy.specs.Header.{arity, fields, header, before, Box, Headers}
+use Rattle.policy.specs.Found.{lesser}
+use Rattle.policy.specs.Least.{leastIn}
+use Rattle.policy.specs.Actions.{subset}
+use Rattle.policy.specs.Entry.{selector}
+use Rattle.policy.specs.Policy.{missed}
+use Rattle.policy.specs.Refusals.{numbers, accepted}
+use Rattle.policy.proofs.Bool.{clash, not-true}
+use Rattle.policy.proofs.Order.{Order, earlier, equal, later, order}
+use Rattle.wire.specs.Format.{recordSize, entryAt, entriesFrom}
+use Rattle.wire.proofs.Entries.{entries-split, entries-take}
+use Rattle.region.specs.declared.treated.Sets.{Sets}
+use Rattle.region.specs.declared.treated.Sets.the-variants.{Same, Other, Lacking}
+use Rattle.region.specs.Records.{recordsIn}
+use Rattle.region.specs.Corner.{improves}
+use Rattle.region.specs.Treated.{wanted}
+use Rattle.region.specs.Search.{foundAnswer}
+use Rattle.region.proofs.Uses.{leftIn, judged-wanted, judged-passed, judged-end, judged-exhausted}
+
+-- ---- is_wanted
+
+pub wanted-same : (q : Sets) (s a : ℕ) → q ≡ Same s → eqb a s ≡ wanted q a
+wanted-same q s a e = ap (λ (q : Sets). wanted q a) (sym e)
+
+pub wanted-other : (q : Sets) (s a : ℕ) → q ≡ Other s → not (eqb a s) ≡ wanted q a
+wanted-other q s a e = ap (λ (q : Sets). wanted q a) (sym e)
+
+pub wanted-lacking : (q : Sets) (s a : ℕ) (t : Bool) → q ≡ Lacking s → t ≡ subset s a → not t ≡ wanted q a
+wanted-lacking q s a t e p = ap not p ∙ ap (λ (q : Sets). wanted q a) (sym e)
+
+-- ---- is_exhausted
+
+-- nothing was found, so there was nothing
+pub exhausted-none : (r best c : Found) → c ≡ lesser r best → c ≡ Nothing → lesser r best ≡ best
+exhausted-none r best c e n = go r best (sym e ∙ n)
+  where
+    go : (r best : Found) → lesser r best ≡ Nothing → lesser r best ≡ best
+    go Nothing best e = refl
+    go (At h) Nothing e = absurd (let z : _≡_ {A = ℕ} 0 1 = cc in omega arith)
+    go (At h) (At g) e = one (before g h) e
+      where
+        one : (t : Bool) → cond t (At g) (At h) ≡ Nothing → cond t (At g) (At h) ≡ At g
+        one true e = refl
+        one false e = absurd (let z : _≡_ {A = ℕ} 0 1 = cc in omega arith)
+
+-- what was found does not come before best, so it is best
+pub exhausted-at : (r best c : Found) (h : Header) (t : Bool) → c ≡ lesser r best → c ≡ At h → t ≡ improves h best → not t ≡ true → lesser r best ≡ best
+exhausted-at r best c h t e a i n = go r best (sym e ∙ a) (sym i ∙ not-true n)
+  where
+    go : (r best : Found) → lesser r best ≡ At h → improves h best ≡ false → lesser r best ≡ best
+    go r Nothing e n = clash refl n
+    go Nothing (At g) e n = refl
+    go (At f) (At g) e n = one (before g f) refl e
+      where
+        same : before g f ≡ false → before f g ≡ false → Order arity (fields f) (fields g) → At f ≡ At g
+        same p q (earlier l) = clash l q
+        same p q (equal l) = ap (λ (r : Row ℕ arity). At (header r)) l
+        same p q (later l) = clash l p
+
+        one : (t : Bool) → before g f ≡ t → cond t (At g) (At f) ≡ At h → cond t (At g) (At f) ≡ At g
+        one true p e = refl
+        one false p e =
+            let k : f ≡ h = cc in
+            same p (ap (λ (f : Header). before f g) k ∙ n) (order arity (fields f) (fields g))
+
+-- ---- the entries before a place, and from it on
+
+pub firsts-in : (s : List ℕ) (i n : ℕ) → i ≤ length s / recordSize → n ≡ recordSize * i → recordsIn (take n s) ≡ entriesFrom s 0 i
+firsts-in s i n l e =
+    ap (entriesFrom (take n s) 0) (ap (_/ recordSize) (length-take n s ∙ shorter n i (length s) l e) ∙ times i)
+    ∙ entries-take s n 0 i (fits n i e)
+  where
+    shorter : (n i m : ℕ) → i ≤ m / recordSize → n ≡ recordSize * i → min n m ≡ recordSize * i
+    shorter n i m l e = omega arith
+
+    times : (i : ℕ) → recordSize * i / recordSize ≡ i
+    times i = omega arith
+
+    fits : (n i : ℕ) → n ≡ recordSize * i → 0 + recordSize * i ≤ n
+    fits n i e = omega arith
+
+module _ (s : List ℕ) where
+  -- the records are the first i and the others
+  abbrev from : ℕ → List Entry
+  from i = entriesFrom s (recordSize * i) (length s / recordSize - i)
+
+  first-of : (i : ℕ) → i < length s / recordSize → from i ≡ entryAt s (recordSize * i) ∷ from (i + 1)
+  first-of i l =
+      ap (entriesFrom s (recordSize * i)) (one-more (length s / recordSize) i l)
+      ∙ ap₂ (λ (at n : ℕ). entryAt s (recordSize * i) ∷ entriesFrom s at n) (next i) (less (length s / recordSize) i)
+    where
+      one-more : (n i : ℕ) → i < n → n - i ≡ suc (n - (i + 1))
+      one-more n i l = omega arith
+
+      next : (i : ℕ) → recordSize * i + recordSize ≡ recordSize * (i + 1)
+      next i = omega arith
+
+      less : (n i : ℕ) → n - (i + 1) ≡ n - (i + 1)
+      less n i = refl
+
+  firsts-more : (i : ℕ) → entriesFrom s 0 (i + 1) ≡ entriesFrom s 0 i ++ entryAt s (recordSize * i) ∷ []
+  firsts-more i = entries-split s 0 i 1 ∙ ap (λ (at : ℕ). entriesFrom s 0 i ++ entryAt s at ∷ []) (from-zero i)
+    where
+      from-zero : (i : ℕ) → 0 + recordSize * i ≡ recordSize * i
+      from-zero i = omega arith
+
+-- ---- the loop
+
+-- what is still to be found behind the front and the first i entries
+abbrev pub Left : Headers → Box → Sets → Bool → List Entry → List ℕ → ℕ → Found
+Left hs x q d front s i = leftIn hs x q d (front ++ entriesFrom s 0 i) (entriesFrom s (recordSize * i) (length s / recordSize - i))
+
+module _ (hs : Headers) (x : Box) (q : Sets) (d : Bool) (front : List Entry) (s : List ℕ) where
+  abbrev mask : ℕ → List Entry
+  mask i = front ++ entriesFrom s 0 i
+
+  pub left-start : (n : ℕ) → n ≡ length s / recordSize → leftIn hs x q d front (entriesFrom s 0 n) ≡ Left hs x q d front s 0
+  left-start n e = ap₂ (λ (f p : List Entry). leftIn hs x q d f p) (sym (append-nil front)) (ap (entriesFrom s 0) (e ∙ all (length s / recordSize)))
+    where
+      all : (n : ℕ) → n ≡ n - 0
+      all n = omega arith
+
+  -- one entry more
+  pub left-again : (i at : ℕ) (found new : Found) → i < length s / recordSize → at ≡ recordSize * i
+      → new ≡ lesser (cond (wanted q (entryAt s at .actions)) (leastIn hs (meet arity x (selector (entryAt s at))) (missed (front ++ recordsIn (take at s)))) Nothing) found
+      → lesser (Left hs x q d front s i) found ≡ lesser (Left hs x q d front s (i + 1)) new
+  left-again i at found new l e n =
+      ap (λ (p : List Entry). lesser (leftIn hs x q d (mask i) p) found) (first-of s i l)
+      ∙ step (wanted q (entryAt s (recordSize * i) .actions)) refl
+      ∙ ap (λ (f : List Entry). lesser (leftIn hs x q d f (from s (i + 1))) part) more
+      ∙ ap (lesser (Left hs x q d front s (i + 1))) (sym here)
+    where
+      part : Found
+      part = lesser (cond (wanted q (entryAt s (recordSize * i) .actions)) (leastIn hs (meet arity x (selector (entryAt s (recordSize * i)))) (missed (mask i))) Nothing) found
+
+      more : mask i ++ entryAt s (recordSize * i) ∷ [] ≡ mask (i + 1)
+      more = append-assoc front (entriesFrom s 0 i) (entryAt s (recordSize * i) ∷ []) ∙ ap (front ++_) (sym (firsts-more s i))
+
+      few : i < length s / recordSize → i ≤ length s / recordSize
+      few l = omega arith
+
+      here : new ≡ part
+      here =
+          n
+          ∙ ap (λ (f : List Entry). lesser (cond (wanted q (entryAt s at .actions)) (leastIn hs (meet arity x (selector (entryAt s at))) (missed (front ++ f))) Nothing) found) (firsts-in s i at (few l) e)
+          ∙ ap (λ (at : ℕ). lesser (cond (wanted q (entryAt s at .actions)) (leastIn hs (meet arity x (selector (entryAt s at))) (missed (mask i))) Nothing) found) e
+
+      step : (t : Bool) → wanted q (entryAt s (recordSize * i) .actions) ≡ t
+          → lesser (leftIn hs x q d (mask i) (entryAt s (recordSize * i) ∷ from s (i + 1))) found
+          ≡ lesser (leftIn hs x q d (mask i ++ entryAt s (recordSize * i) ∷ []) (from s (i + 1))) part
+      step true w =
+          judged-wanted hs x q d (mask i) (entryAt s (recordSize * i)) (from s (i + 1)) found w
+          ∙ ap (λ (t : Bool). lesser (leftIn hs x q d (mask i ++ entryAt s (recordSize * i) ∷ []) (from s (i + 1))) (lesser (cond t (leastIn hs (meet arity x (selector (entryAt s (recordSize * i)))) (missed (mask i))) Nothing) found)) (sym w)
+      step false w =
+          judged-passed hs x q d (mask i) (entryAt s (recordSize * i)) (from s (i + 1)) found w
+          ∙ ap (λ (t : Bool). lesser (leftIn hs x q d (mask i ++ entryAt s (recordSize * i) ∷ []) (from s (i + 1))) (lesser (cond t (leastIn hs (meet arity x (selector (entryAt s (recordSize * i)))) (missed (mask i))) Nothing) found)) (sym w)
+
+  -- nothing is left
+  pub left-exhausted : (i at : ℕ) (found : Found) → i < length s / recordSize → at ≡ recordSize * i
+      → lesser (leastIn hs x (missed (front ++ recordsIn (take at s)))) found ≡ found → found ≡ lesser (Left hs x q d front s i) found
+  left-exhausted i at found l e g =
+      sym (judged-exhausted hs x q d (mask i) (from s i) found (ap (λ (f : List Entry). lesser (leastIn hs x (missed (front ++ f))) found) (sym (firsts-in s i at (few l) e)) ∙ g))
+    where
+      few : i < length s / recordSize → i ≤ length s / recordSize
+      few l = omega arith
+
+  -- the end of the list
+  left-end : (i : ℕ) → i ≡ length s / recordSize → Left hs x q d front s i ≡ cond d (leastIn hs x (missed (front ++ recordsIn s))) Nothing
+  left-end i e =
+      ap (leftIn hs x q d (mask i)) (ap (entriesFrom s (recordSize * i)) (none i (length s / recordSize) e))
+      ∙ judged-end hs x q d (mask i)
+      ∙ ap (λ (j : ℕ). cond d (leastIn hs x (missed (mask j))) Nothing) e
+    where
+      none : (i n : ℕ) → i ≡ n → n - i ≡ 0
+      none i n e = omega arith
+
+  pub left-uncaught : (i : ℕ) (found r : Found) → i ≤ length s / recordSize → length s / recordSize ≤ i → d ≡ true
+      → r ≡ lesser (leastIn hs x (missed (front ++ recordsIn s))) found → r ≡ lesser (Left hs x q d front s i) found
+  left-uncaught i found r l m t e = e ∙ ap (λ (f : Found). lesser f found) (sym (left-end i (omega arith) ∙ ap (λ (t : Bool). cond t (leastIn hs x (missed (front ++ recordsIn s))) Nothing) t))
+
+  pub left-none : (i : ℕ) (found : Found) → i ≤ length s / recordSize → length s / recordSize ≤ i → d ≡ false → found ≡ lesser (Left hs x q d front s i) found
+  left-none i found l m t = ap (λ (f : Found). lesser f found) (sym (left-end i (omega arith) ∙ ap (λ (t : Bool). cond t (leastIn hs x (missed (front ++ recordsIn s))) Nothing) t))
+
+-- ---- with_entry
+
+module _ (hs : Headers) (s : List ℕ) (at : ℕ) (front : List Entry) (x : Box) (q : Sets) (a : ℕ) (t : Bool) (best : Found) where
+  pub entry-taken : (p r : Box) (found : Found) (n : ℕ) → n ≡ at → a ≡ entryAt s at .actions → t ≡ wanted q a → t ≡ true → r ≡ selector (entryAt s at) → p ≡ meet arity x r
+      → found ≡ lesser (leastIn hs p (missed (front ++ recordsIn (take n s)))) best
+      → found ≡ lesser (cond (wanted q (entryAt s at .actions)) (leastIn hs (meet arity x (selector (entryAt s at))) (missed (front ++ recordsIn (take at s)))) Nothing) best
+  entry-taken p r found n k e w y i m f =
+      f
+      ∙ ap (λ (n : ℕ). lesser (leastIn hs p (missed (front ++ recordsIn (take n s)))) best) k
+      ∙ ap (λ (p : Box). lesser (leastIn hs p (missed (front ++ recordsIn (take at s)))) best) (m ∙ ap (meet arity x) i)
+      ∙ ap (λ (t : Bool). lesser (cond t (leastIn hs (meet arity x (selector (entryAt s at))) (missed (front ++ recordsIn (take at s)))) Nothing) best) (sym y ∙ w ∙ ap (wanted q) e)
+
+  pub entry-passed : a ≡ entryAt s at .actions → t ≡ wanted q a → t ≡ false
+      → best ≡ lesser (cond (wanted q (entryAt s at .actions)) (leastIn hs (meet arity x (selector (entryAt s at))) (missed (front ++ recordsIn (take at s)))) Nothing) best
+  entry-passed e w n =
+      ap (λ (t : Bool). lesser (cond t (leastIn hs (meet arity x (selector (entryAt s at))) (missed (front ++ recordsIn (take at s)))) Nothing) best) (sym n ∙ w ∙ ap (wanted q) e)
+
+-- ---- a search's answer
+
+pub answer-at : (f : Found) (h : Header) → f ≡ At h → accepted (numbers h) ≡ foundAnswer f
+answer-at f h e = ap foundAnswer (sym e)

@@ -1,0 +1,13 @@
+pub mod Split
+pub mod Meeting
+pub mod Fields
+pub mod Choosing
+pub mod Opening
+pub mod Steps
+pub mod Union
+pub mod Uses
+pub mod Judging
+pub mod Searching
+pub mod Model
+pub mod Examples
+pub mod ListChecks

@@ -1,0 +1,78 @@
+-- The search of a box by its low corner: what prunes it, when the corner is the answer, and when nothing is left of it.
+-- Assumes nothing.
+use Prim.Native.Nat.{ℕ}
+use mathlib.Core.Path.{_≡_, refl, sym, _∙_, ap, subst}
+use mathlib.Core.Logic.{inl, inr}
+use mathlib.Core.Bool.{Bool, true, false, not, cond, _&&_, and-false}
+use mathlib.Core.List.{List, [], _∷_}
+use Rattle.policy.specs.declared.header.Header.{Header}
+use Rattle.policy.specs.declared.header.Found.{Found}
+use Rattle.policy.specs.declared.header.Found.the-variants.{At, Nothing}
+use Rattle.policy.specs.declared.entry.Entry.{Entry}
+use Rattle.policy.specs.Row.{Row, precedes, fits}
+use Rattle.policy.specs.Box.{proper, lows}
+use Rattle.policy.specs.Header.{arity, fields, header, before, Box, lies, Headers, sizes}
+use Rattle.policy.specs.Found.{lesser}
+use Rattle.policy.specs.Least.{leastIn}
+use Rattle.policy.specs.Entry.{matches}
+use Rattle.policy.specs.Policy.{missed}
+use Rattle.policy.proofs.Bool.{clash, is-false, and-left, and-right}
+use Rattle.policy.proofs.Order.{Order, earlier, equal, later, order, pre-trans, pre-irrefl}
+use Rattle.policy.proofs.Box.{corner-in, none-before}
+use Rattle.policy.proofs.Least.{least-none, among-fits}
+use Rattle.policy.proofs.Branch.{found-lies}
+use Rattle.policy.proofs.Policy.{missed-cons}
+use Rattle.region.specs.Corner.{Within, improves, holds, OneOf}
+use Rattle.region.specs.Pieces.{Reaches}
+use Rattle.region.proofs.Split.{covers}
+
+-- an entry of the list matches the headers of its selector
+pub matched : (s : Box) (es : List Entry) → OneOf s es → (h : Header) → lies s h ≡ true → missed es h ≡ false
+matched s [] a h i = absurd a
+matched s (e ∷ es) (inl p) h i =
+    missed-cons e es h ∙ ap (λ (t : Bool). not t && missed es h) (ap (λ (r : Box). lies r h) (sym p) ∙ i)
+matched s (e ∷ es) (inr a) h i = missed-cons e es h ∙ ap (not (matches e h) &&_) (matched s es a h i) ∙ and-false (not (matches e h))
+
+-- nothing is left of a box that an entry covers
+pub none-left : (hs : Headers) (es : List Entry) (b s : Box) → holds s b ≡ true → OneOf s es → Reaches arity b s → leastIn hs b (missed es) ≡ Nothing
+unfolding leastIn
+none-left hs es b s c a r =
+    least-none hs (λ h. lies b h && missed es h) λ h m. is-false (lies b h && missed es h) λ t.
+    clash (and-right (lies b h) (missed es h) t) (matched s es a h (covers arity b s (fields h) c r (and-left (lies b h) (missed es h) t)))
+
+-- the low corner of a box of headers fits the widths of a header
+pub corner-fits : (hs : Headers) (b : Box) → Within hs b → proper arity b ≡ true → fits arity sizes (lows arity b) ≡ true
+corner-fits hs b w p = among-fits hs (header (lows arity b)) (w (header (lows arity b)) (corner-in arity b p))
+
+-- a header that comes before the finding is the lesser
+pub improved : (h : Header) (best : Found) → improves h best ≡ true → At h ≡ lesser (At h) best
+improved h Nothing e = refl
+improved h (At g) e =
+    ap (λ (t : Bool). cond t (At g) (At h))
+    (sym (is-false (before g h) λ l. pre-irrefl arity (fields h) (pre-trans arity (fields h) (fields g) (fields h) e l)))
+
+-- a box whose low corner does not come before the finding has nothing that does
+pub pruned : (hs : Headers) (P : Header → Bool) (b : Box) (best : Found) → improves (header (lows arity b)) best ≡ false → best ≡ lesser (leastIn hs b P) best
+pruned hs P b best n = go (leastIn hs b P) refl best n
+  where
+    go : (r : Found) → leastIn hs b P ≡ r → (best : Found) → improves (header (lows arity b)) best ≡ false → best ≡ lesser r best
+    go r e Nothing n = clash refl n
+    go Nothing e (At g) n = refl
+    go (At h) e (At g) n = one (before g h) refl
+      where
+        far : before h g ≡ true → Order arity (lows arity b) (fields h) → At g ≡ At h
+        far l (earlier p) = clash (pre-trans arity (lows arity b) (fields h) (fields g) p l) n
+        far l (equal p) = clash (subst (λ (y : Row ℕ arity). precedes arity y (fields g) ≡ true) (sym p) l) n
+        far l (later p) = absurd (none-before arity b (fields h) (found-lies hs b P h e) p)
+
+        near : before g h ≡ false → Order arity (fields g) (fields h) → At g ≡ At h
+        near q (earlier p) = clash p q
+        near q (equal p) = ap (λ (r : Row ℕ arity). At (header r)) p
+        near q (later p) = far p (order arity (lows arity b) (fields h))
+
+        one : (t : Bool) → before g h ≡ t → At g ≡ cond t (At g) (At h)
+        one true q = refl
+        one false q = near q (order arity (fields g) (fields h))
+
+pub improves-at : (h g : Header) (best : Found) (t : Bool) → best ≡ At g → t ≡ before h g → t ≡ improves h best
+improves-at h g best t e p = p ∙ ap (improves h) (sym e)

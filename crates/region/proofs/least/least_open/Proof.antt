@@ -1,0 +1,62 @@
+-- The least over the boxes of the set, from the last to the first.
+use Prim.Native.Nat.{_≤_, _-_}
+use native.Mathlib.Omega.{arith}
+use mathlib.Core.List.{_++_}
+use mathlib.Core.Path.{refl}
+use lib.ListN.{length}
+use borrow.Author.Needs.{needs}
+use Rattle.policy.specs.Policy.{missed}
+use Rattle.policy.specs.Header.{headers, ranges, everything}
+use Rattle.region.specs.Records.{recordsIn}
+use Rattle.region.proofs.Union.{SoFar, set-again, set-all, part-headers, records-few}
+use Rattle.region.proofs.least.least_open.Statement.{statement}
+use Rattle.region.proofs.least.least_open.Tie as tie
+
+abbrev Inv-loop : tie.InvT-loop
+Inv-loop a b x left found₀ i₀ found i = (i ≤ length (headers .boxes)) × SoFar headers (missed (recordsIn a ++ recordsIn b)) (ranges x) found₀ i found
+
+abbrev μ-loop : tie.MeasureT-loop
+μ-loop a b x left found₀ i₀ found i = i
+
+add-left : tie.Need-add-left Inv-loop μ-loop
+add-left c = omega arith
+
+loop-holds : tie.Need-loop-holds Inv-loop μ-loop
+loop-holds c = (omega arith, refl)
+
+sub-i : tie.Need-sub-i Inv-loop μ-loop
+sub-i c = omega arith
+
+header-box-requires : tie.Need-header-box-requires Inv-loop μ-loop
+header-box-requires c κs = omega arith
+
+inside-part-requires : tie.Need-inside-part-requires Inv-loop μ-loop
+inside-part-requires c κs = search needs
+
+least-in-part-requires : tie.Need-least-in-part-requires Inv-loop μ-loop
+least-in-part-requires c κs = (part-headers headers (ranges (c .before .before .before .before .before .before .args .x)) everything (ranges (c .inside-part .result)) (ranges (c .before .header-box .result)) (c .before .before .before .loop .i - 1) (omega arith) (c .before .header-box .ensures) (c .inside-part .ensures), search records-few)
+
+loop-less : tie.Need-loop-less Inv-loop μ-loop
+loop-less c = omega arith
+
+loop-again : tie.Need-loop-again Inv-loop μ-loop
+loop-again c = (omega arith, search set-again)
+
+returns : tie.Need-returns Inv-loop μ-loop
+returns c = search set-all
+
+pub least-open-spec : {M : Type 1} → statement M
+least-open-spec =
+    tie.close
+    (tie.spec
+    Inv-loop
+    μ-loop
+    add-left
+    loop-holds
+    sub-i
+    header-box-requires
+    inside-part-requires
+    least-in-part-requires
+    loop-less
+    loop-again
+    returns)

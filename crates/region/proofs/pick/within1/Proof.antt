@@ -1,0 +1,20 @@
+-- The two tests of a range.
+use borrow.Author.Needs.{needs}
+use Rattle.region.proofs.Choosing.{below-low, up-to-high}
+use Rattle.region.proofs.pick.within1.Statement.{statement}
+use Rattle.region.proofs.pick.within1.Tie as tie
+
+read1-requires : tie.Need-read1-requires
+read1-requires c κs = search needs
+
+returns : tie.Need-returns
+returns c = search below-low
+
+read1-requires-2 : tie.Need-read1-requires-2
+read1-requires-2 c κs = search needs
+
+returns-2 : tie.Need-returns-2
+returns-2 c = search up-to-high
+
+pub within1-spec : {M : Type 1} → statement M
+within1-spec = tie.close (tie.spec read1-requires returns read1-requires-2 returns-2)

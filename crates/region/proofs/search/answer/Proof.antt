@@ -1,0 +1,20 @@
+-- By the two cases of a finding.
+use borrow.Author.Needs.{needs}
+use Rattle.region.proofs.Judging.{answer-at}
+use Rattle.region.proofs.search.answer.Statement.{statement}
+use Rattle.region.proofs.search.answer.Tie as tie
+
+enum-known-f : tie.Need-enum-known-f
+enum-known-f c = search needs
+
+enum-told : tie.Need-enum-told
+enum-told c = search needs
+
+returns : tie.Need-returns
+returns c = search answer-at
+
+returns-2 : tie.Need-returns-2
+returns-2 c = search needs
+
+pub answer-spec : {M : Type 1} → statement M
+answer-spec = tie.close (tie.spec enum-known-f enum-told returns returns-2)

@@ -1,0 +1,11 @@
+// The search of a region: the least header of a box that no record of two lists matches, and what is answered by it.
+pub mod corner;
+pub mod covering;
+pub mod cut;
+pub mod gap;
+pub mod headers;
+pub mod least;
+pub mod pick;
+pub mod rank;
+pub mod search;
+pub mod treated;

@@ -1,0 +1,157 @@
+-- What checks 1 to 4 test, as facts on numbers.
+-- Assumes nothing.
+use Prim.Native.Nat.{ℕ, _+_, _*_, _-_, _/_, _%_, _≤_, _<_}
+use native.Mathlib.Omega.{arith}
+use native.Mathlib.Numerals.{add-one}
+use native.Mathlib.Nat.{div-add-mod, mul-div-right, mul-mod-right}
+use mathlib.Core.Path.{_≡_, refl, sym, _∙_, ap}
+use mathlib.Core.Bool.{Bool, true, false, not, cond, _||_}
+use mathlib.Core.List.{List, [], _∷_}
+use mathlib.Core.Option.{Option, none, some}
+use lib.Dec.{ltb, eqb}
+use lib.ListN.{length, getD, drop, drop-of-length-le}
+use lib.Seq.{drop-cons}
+use borrow.Author.Tests.{ltb-false, eqb-true, lt-ltb, le-ltb, eq-eqb, ne-eqb}
+use Rattle.policy.specs.declared.entry.Entry.{Entry}
+use Rattle.policy.specs.declared.refusal.Refusal.the-variants.{Missized, Version, Count, Crossed}
+use Rattle.policy.specs.Refusals.{Answer, refusal, accepted, refuse, firstOf}
+use Rattle.policy.specs.Box.{proper}
+use Rattle.policy.specs.Header.{arity, Box}
+use Rattle.policy.specs.Entry.{selector, crossed}
+use Rattle.policy.proofs.Bool.{not-false, clash, or-left, or-right}
+use Rattle.wire.specs.Format.{version, headSize, recordSize, lengthIn, versionIn, countIn, entryAt, entriesFrom}
+use Rattle.wire.specs.Lists.{emptyEntry}
+use Rattle.policy.proofs.Rows.{Refuse, refusal-clash}
+use Rattle.wire.proofs.Entries.{entries-at}
+use Rattle.wire.specs.Checks.{missized, badVersion, outside, badCount, firstCrossedFrom, firstCrossed, refuseEntry, crossedOf, checksOf}
+
+-- an `or` that is false
+pub or-false-left : (a b : Bool) → (a || b) ≡ false → a ≡ false
+or-false-left true b e = e
+or-false-left false b e = refl
+
+pub or-false-right : (a b : Bool) → (a || b) ≡ false → b ≡ false
+or-false-right true b e = clash refl e
+or-false-right false b e = e
+
+-- x divided by 28 is n with remainder 0 exactly if x is 28 times n
+pub divided : (x n : ℕ) → x ≡ recordSize * n → (x / recordSize ≡ n) × (x % recordSize ≡ 0)
+divided x n e = (ap (_/ recordSize) e ∙ mul-div-right n {m = recordSize} (omega arith), ap (_% recordSize) e ∙ mul-mod-right recordSize n)
+
+pub undivided : (x n : ℕ) → x / recordSize ≡ n → x % recordSize ≡ 0 → x ≡ recordSize * n
+undivided x n p q = omega (arith, div-add-mod x recordSize)
+
+-- n is 1 to the limit
+pub within-limits : (limit n : ℕ) → 1 ≤ n → n ≤ limit → outside limit n ≡ false
+within-limits limit n p q = rw (le-ltb n 1 p, le-ltb limit n q)
+
+pub none-outside : (limit n : ℕ) → n < 1 → outside limit n ≡ true
+none-outside limit n p = or-left _ _ (lt-ltb n 1 p)
+
+pub past-outside : (limit n : ℕ) → limit < n → outside limit n ≡ true
+past-outside limit n p = or-right (ltb n 1) _ (lt-ltb limit n p)
+
+pub limits-told : (limit n : ℕ) → outside limit n ≡ false → (1 ≤ n) × (n ≤ limit)
+limits-told limit n e = (ltb-false n 1 (or-false-left _ _ e), ltb-false limit n (or-false-right (ltb n 1) _ e))
+
+module _ (s : List ℕ) where
+  -- checks 1 and 2
+  pub too-short : length s < headSize → missized s ≡ true
+  too-short p = or-left _ _ (lt-ltb (length s) headSize p)
+
+  pub other-length : (length s ≡ lengthIn s + 2 → ⊥) → missized s ≡ true
+  other-length p = or-right (ltb (length s) headSize) _ (ap not (ne-eqb (length s) (lengthIn s + 2) p))
+
+  pub sized : headSize ≤ length s → length s ≡ lengthIn s + 2 → missized s ≡ false
+  sized p q = rw (le-ltb (length s) headSize p, eq-eqb (length s) (lengthIn s + 2) q)
+
+  pub size-told : missized s ≡ false → (headSize ≤ length s) × (length s ≡ lengthIn s + 2)
+  size-told e = (
+    ltb-false (length s) headSize (or-false-left _ _ e),
+    eqb-true (length s) (lengthIn s + 2) (not-false (or-false-right (ltb (length s) headSize) _ e)),
+  )
+
+  pub other-version : (versionIn s ≡ version → ⊥) → badVersion s ≡ true
+  other-version p = ap not (ne-eqb (versionIn s) version p)
+
+  pub right-version : versionIn s ≡ version → badVersion s ≡ false
+  right-version p = ap not (eq-eqb (versionIn s) version p)
+
+  -- check 3
+  pub bad-limits : (limit : ℕ) → outside limit (countIn s) ≡ true → badCount s limit ≡ true
+  bad-limits limit p = or-left _ _ p
+
+  pub counted : (limit : ℕ) → outside limit (countIn s) ≡ false → lengthIn s - 3 ≡ recordSize * countIn s → badCount s limit ≡ false
+  counted limit p q =
+      let d = divided (lengthIn s - 3) (countIn s) q in
+      rw (p, eq-eqb ((lengthIn s - 3) / recordSize) (countIn s) (d .0), eq-eqb ((lengthIn s - 3) % recordSize) 0 (d .1))
+
+  pub count-told : (limit : ℕ) → badCount s limit ≡ false → (outside limit (countIn s) ≡ false) × (lengthIn s - 3 ≡ recordSize * countIn s)
+  count-told limit e =
+      let t = or-false-right (outside limit (countIn s)) _ e in
+      let q = not (eqb ((lengthIn s - 3) / recordSize) (countIn s)) in (
+        or-false-left (outside limit (countIn s)) _ e,
+        undivided (lengthIn s - 3) (countIn s)
+            (eqb-true ((lengthIn s - 3) / recordSize) (countIn s) (not-false (or-false-left q _ t)))
+            (eqb-true ((lengthIn s - 3) % recordSize) 0 (not-false (or-false-right q _ t))),
+      )
+
+  pub miscounted : (limit : ℕ) → (lengthIn s - 3 ≡ recordSize * countIn s → ⊥) → badCount s limit ≡ true
+  miscounted limit p = go (badCount s limit) refl
+    where
+      go : (b : Bool) → badCount s limit ≡ b → badCount s limit ≡ true
+      go true e = e
+      go false e = absurd (p (count-told limit e .1))
+
+-- check 4, entry by entry: no entry before i is crossed, so the first crossed one is the first among those from i on
+abbrev pub Scanned : List Entry → ℕ → Type 0
+Scanned p i = firstCrossed p ≡ firstCrossedFrom i (drop i p)
+
+module _ (p : List Entry) (i : ℕ) (d : Entry) (l : i < length p) (h : Scanned p i) where
+  scanned-here : firstCrossed p ≡ cond (crossed (getD p i d)) (some i) (firstCrossedFrom (i + 1) (drop (i + 1) p))
+  scanned-here =
+      h ∙ ap (firstCrossedFrom i) (drop-cons p i d l)
+      ∙ ap (λ (k : ℕ). cond (crossed (getD p i d)) (some i) (firstCrossedFrom (i + 1) (drop k p))) (sym (add-one i))
+
+  pub scanned-crossed : (n : ℕ) → crossed (getD p i d) ≡ true → refusal (Crossed i) ≡ crossedOf p n
+  scanned-crossed n e = rw (scanned-here, e)
+
+  pub scanned-next : crossed (getD p i d) ≡ false → Scanned p (i + 1)
+  scanned-next e = scanned-here ∙ ap (λ (t : Bool). cond t (some i) (firstCrossedFrom (i + 1) (drop (i + 1) p))) e
+
+-- check 4 as one of a list of checks: what it answers is no acceptance
+pub entry-refuses : (o : Option ℕ) (rs : List (Option Answer)) → Refuse rs → Refuse (refuseEntry Crossed o ∷ rs)
+entry-refuses (some i) rs f = (refl, f)
+entry-refuses none rs f = f
+
+-- and it did not refuse
+pub entry-not-refused : (o : Option ℕ) (rs : List (Option Answer)) (a : Answer) (vs : List ℕ) → accepted vs ≡ firstOf (refuseEntry Crossed o ∷ rs) a → (o ≡ none) × (accepted vs ≡ firstOf rs a)
+entry-not-refused (some i) rs a vs e = refusal-clash (Crossed i) vs (sym e)
+entry-not-refused none rs a vs e = (refl, e)
+
+-- no entry is crossed
+pub crossed-none : (p : List Entry) (n : ℕ) → firstCrossed p ≡ none → accepted (n ∷ []) ≡ crossedOf p n
+crossed-none p n e = rw e
+
+pub scanned-all : (p : List Entry) (n i : ℕ) → length p ≤ i → Scanned p i → accepted (n ∷ []) ≡ crossedOf p n
+scanned-all p n i l h = crossed-none p n (h ∙ ap (firstCrossedFrom i) (drop-of-length-le p l))
+
+-- what the test of a record's selector says of the entry
+pub entry-crossed : (s : List ℕ) (n i : ℕ) (b : Box) (t u : Bool) → i < n → b ≡ selector (entryAt s (headSize + recordSize * i)) → t ≡ proper arity b → not t ≡ u
+    → crossed (getD (entriesFrom s headSize n) i emptyEntry) ≡ u
+entry-crossed s n i b t u l p q r = ap crossed (entries-at s headSize n i emptyEntry l) ∙ sym (ap not (q ∙ ap (proper arity) p)) ∙ r
+
+-- the answer of the checks, by the first that refuses
+module _ (s : List ℕ) (limit : ℕ) where
+  pub is-missized : missized s ≡ true → refusal Missized ≡ checksOf s limit
+  is-missized p = rw p
+
+  pub has-version : missized s ≡ false → badVersion s ≡ true → refusal Version ≡ checksOf s limit
+  has-version p q = rw (p, q)
+
+  pub has-count : missized s ≡ false → badVersion s ≡ false → badCount s limit ≡ true → refusal Count ≡ checksOf s limit
+  has-count p q r = rw (p, q, r)
+
+  pub by-entries : missized s ≡ false → badVersion s ≡ false → badCount s limit ≡ false
+      → (n : ℕ) (a : Answer) → n ≡ countIn s → a ≡ crossedOf (entriesFrom s headSize n) n → a ≡ checksOf s limit
+  by-entries p q r n a e h = h ∙ ap (λ (m : ℕ). crossedOf (entriesFrom s headSize m) m) e ∙ rw (p, q, r)

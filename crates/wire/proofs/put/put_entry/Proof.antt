@@ -1,0 +1,31 @@
+-- What a record is, and that it is copied.
+use mathlib.Core.Path.{_∙_, ap}
+use mathlib.Core.List.{List}
+use Prim.Native.Nat.{ℕ}
+use lib.ListN.{length}
+use lib.Seq.{paste}
+use borrow.Author.Needs.{needs}
+use Rattle.wire.proofs.put.put_entry.Statement.{statement}
+use Rattle.wire.proofs.put.put_entry.Tie as tie
+
+record-of-requires : tie.Need-record-of-requires
+record-of-requires c κs = search needs
+
+slice-aggregate-put-bytes : tie.Need-slice-aggregate-put-bytes
+slice-aggregate-put-bytes c = search needs
+
+put-bytes-requires : tie.Need-put-bytes-requires
+put-bytes-requires c κs = search needs
+
+same-length : tie.Need-same-length
+same-length c = search needs
+
+returns : tie.Need-returns
+returns c =
+    let a = c .before .before .before .before .before .before .before .args in
+    c .before .before .put-bytes .ensures ∙ ap (λ (b : List ℕ). paste (a .buffer .now) (a .at) b (length b)) (c .before .before .before .before .before .record-of .ensures)
+
+pub put-entry-spec : {M : Type 1} → statement M
+put-entry-spec =
+    tie.close
+    (tie.spec record-of-requires slice-aggregate-put-bytes put-bytes-requires same-length returns)

@@ -1,0 +1,44 @@
+-- Writing a list as a file into a lent buffer (01, "The file").
+use Prim.Native.Nat.{ℕ}
+use mathlib.Core.List.{List, [], _∷_, _++_}
+use mathlib.Core.Option.{Option}
+use lib.Dec.{ltb}
+use lib.ListN.{length, drop}
+use Rattle.policy.specs.declared.refusal.Refusal.the-variants.{Count, Crossed, Narrow}
+use Rattle.policy.specs.Refusals.{Answer, refusal, accepted, refuse, firstOf}
+use Rattle.wire.specs.declared.list.Entries.{Entries}
+use Rattle.wire.specs.declared.write.Written.{Written}
+use Rattle.wire.specs.declared.write.Written.the-variants.{Done, Refused}
+use Rattle.wire.specs.Format.{listLimit, fileSize, fileOf}
+use Rattle.wire.specs.Answers.{ifAccepted}
+use Rattle.wire.specs.Checks.{outside, firstCrossed, refuseEntry}
+use Rattle.wire.specs.Lists.{held}
+
+-- bytes at the start of a buffer; those after them keep their values
+abbrev pub placed : List ℕ → List ℕ → List ℕ
+placed s buffer = s ++ drop (length s) buffer
+
+-- 11, narrow: the buffer is shorter than the file of n entries
+abbrev pub tooNarrow : ℕ → List ℕ → Option Answer
+tooNarrow n buffer = refuse (ltb (length buffer) (fileSize n)) (Narrow (fileSize n))
+
+-- the checks of writing, in their order: 3 (count not 1 to 256), 4 and 11
+abbrev pub writeChecks : Entries → List ℕ → List (Option Answer)
+writeChecks l buffer =
+    refuse (outside listLimit (l .count)) Count
+    ∷ refuseEntry Crossed (firstCrossed (held l))
+    ∷ tooNarrow (l .count) buffer
+    ∷ []
+
+-- what they answer: the first refusal, or the file's length
+abbrev pub writeAnswer : Entries → List ℕ → Answer
+writeAnswer l buffer = firstOf (writeChecks l buffer) (accepted (fileSize (l .count) ∷ []))
+
+-- writing: the answer, and the buffer's final contents; a refusal leaves it as it was
+abbrev pub writingOf : Entries → List ℕ → Answer × List ℕ
+writingOf l buffer = (writeAnswer l buffer, ifAccepted (writeAnswer l buffer) (placed (fileOf (held l)) buffer) buffer)
+
+-- a writing in 01's terms
+abbrev pub writing : Written → List ℕ → Answer × List ℕ
+writing (Done n) buffer = (accepted (n ∷ []), buffer)
+writing (Refused r) buffer = (refusal r, buffer)

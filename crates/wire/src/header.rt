@@ -1,0 +1,26 @@
+// A header's numbers as bytes.
+use policy::header::Header;
+ghost use mathlib.Core.Path.{_≡_};
+ghost use Rattle.policy.specs.Refusals.{numbers};
+ghost use Rattle.wire.specs.Format.{headerBytes};
+
+// The numbers of h, the highest byte of each first.
+pub fn header_bytes(h: Header) -> [u8; 13]
+    ensures { λ r. ⌜ r ≡ headerBytes (numbers h) ⌝ }
+{
+    [
+        (h.local / 16777216 % 256) as u8,
+        (h.local / 65536 % 256) as u8,
+        (h.local / 256 % 256) as u8,
+        (h.local % 256) as u8,
+        (h.remote / 16777216 % 256) as u8,
+        (h.remote / 65536 % 256) as u8,
+        (h.remote / 256 % 256) as u8,
+        (h.remote % 256) as u8,
+        (h.local_port / 256 % 256) as u8,
+        (h.local_port % 256) as u8,
+        (h.remote_port / 256 % 256) as u8,
+        (h.remote_port % 256) as u8,
+        h.protocol,
+    ]
+}

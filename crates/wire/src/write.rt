@@ -1,0 +1,79 @@
+// Writing: from a list to a file in a lent buffer.
+use crate::check::Checked;
+use crate::format::HEAD_SIZE;
+use crate::format::LIST_LIMIT;
+use crate::format::RECORD_SIZE;
+use crate::list::Entries;
+use crate::put::put_entry;
+use crate::put::put_head;
+use policy::entry::is_crossed;
+use policy::refusal::Refusal;
+ghost use mathlib.Core.Path.{_≡_};
+ghost use Prim.Native.Nat.{_≤_};
+ghost use lib.ListN.{length};
+ghost use Rattle.wire.specs.Format.{listLimit, fileSize, fileOf};
+ghost use Rattle.wire.specs.Checks.{crossedOf, checked};
+ghost use Rattle.wire.specs.Lists.{held};
+ghost use Rattle.wire.specs.Writing.{placed, writing, writingOf};
+
+pub enum Written {
+    // The file's length.
+    Done(usize),
+    Refused(Refusal),
+}
+
+// Check 4, of a list of at most 256 entries.
+fn check_held(list: Entries) -> Checked
+    requires { ⌜ list .count ≤ listLimit ⌝ }
+    ensures { λ r. ⌜ checked r ≡ crossedOf (held list) (list .count) ⌝ }
+{
+    let n = list.count;
+    let mut i: usize = 0;
+    while i < n {
+        let e = list.entries[i];
+        if is_crossed(e) {
+            return Checked::Refused(Refusal::Crossed(i));
+        }
+        i += 1;
+    }
+    Checked::Good(n)
+}
+
+// Puts a list's file at the start of a buffer.
+fn put_list(list: Entries, buffer: &mut [u8])
+    requires { ⌜ (list .count ≤ listLimit) × (fileSize (list .count) ≤ length (now buffer)) ⌝ }
+    ensures { λ _. ⌜ now (buffer .exit) ≡ placed (fileOf (held list)) (now (buffer .entry)) ⌝ }
+{
+    let count = list.count;
+    put_head(buffer, count);
+    let mut i: usize = 0;
+    while i < count {
+        let e = list.entries[i];
+        put_entry(buffer, HEAD_SIZE + RECORD_SIZE * i, e);
+        i += 1;
+    }
+}
+
+// Writes a list as a file to the start of a buffer.
+pub fn write_list(list: Entries, buffer: &mut [u8]) -> Written
+    ensures { λ r. ⌜ writing r (now (buffer .exit)) ≡ writingOf list (now (buffer .entry)) ⌝ }
+{
+    let n = list.count;
+    if n < 1 {
+        return Written::Refused(Refusal::Count);
+    }
+    if LIST_LIMIT < n {
+        return Written::Refused(Refusal::Count);
+    }
+    match check_held(list) {
+        Checked::Refused(r) => Written::Refused(r),
+        Checked::Good(_) => {
+            let size = HEAD_SIZE + RECORD_SIZE * n;
+            if buffer.len() < size {
+                return Written::Refused(Refusal::Narrow(size));
+            }
+            put_list(list, buffer);
+            Written::Done(size)
+        }
+    }
+}
