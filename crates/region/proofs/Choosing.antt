@@ -22,7 +22,7 @@ use Rattle.policy.proofs.Branches.{stops, goes-on}
 use Rattle.wire.specs.Format.{recordSize, entryAt, entriesFrom}
 use Rattle.region.specs.declared.pick.Picked.{Picked}
 use Rattle.region.specs.declared.pick.Picked.the-variants.{Held, Free}
-use Rattle.region.specs.Corner.{holds, OneOf, Picks, offer, Either}
+use Rattle.region.specs.Corner.{holds, OneOf, Picks, HeldIf, Either}
 
 -- ---- a number in a range whose ends were read
 
@@ -34,11 +34,11 @@ up-to-high lo hi x r q e l f = ap (leb x) f ∙ sym (ap (_&& leb x hi) (le-leb l
 
 -- ---- an entry that holds the corner
 
-pub offered-yes : (s : Box) (h t : Bool) (q : Region) → t ≡ h → t ≡ true → ranges q ≡ s → offer h s (Held q)
-offered-yes s h t q e p r = subst (λ (u : Bool). offer u s (Held q)) (sym p ∙ e) r
+pub offered-yes : (s : Box) (h t : Bool) (q : Region) → t ≡ h → t ≡ true → ranges q ≡ s → HeldIf h s (Held q)
+offered-yes s h t q e p r = subst (λ (u : Bool). HeldIf u s (Held q)) (sym p ∙ e) r
 
-pub offered-no : (s : Box) (h t : Bool) → t ≡ h → t ≡ false → offer h s Free
-offered-no s h t e p = subst (λ (u : Bool). offer u s Free) (sym p ∙ e) tt
+pub offered-no : (s : Box) (h t : Bool) → t ≡ h → t ≡ false → HeldIf h s Free
+offered-no s h t e p = subst (λ (u : Bool). HeldIf u s Free) (sym p ∙ e) tt
 
 pub larger-free : (c d : Picked) → c ≡ Free → Either c d d
 larger-free c d e = subst (λ (t : Picked). Either t d d) (sym e) refl
@@ -57,13 +57,13 @@ module _ (e : Entry) (es : List Entry) (b : Box) where
   keep (Held s) q c = (c .0, inr (c .1))
   keep Free q c = missed-cons e es (header (lows arity b)) ∙ and-intro (ap not q) c
 
-  pub picks-more : (new old r : Picked) → offer (holds (selector e) b) (selector e) new → Picks es b old → Either new old r → Picks (e ∷ es) b r
+  pub picks-more : (new old r : Picked) → HeldIf (holds (selector e) b) (selector e) new → Picks es b old → Either new old r → Picks (e ∷ es) b r
   picks-more new old r f c o = go (holds (selector e) b) refl new f old c o
     where
       own : (s : Region) → holds (selector e) b ≡ true → ranges s ≡ selector e → Picks (e ∷ es) b (Held s)
       own s q f = (ap (λ (p : Box). holds p b) f ∙ q, inl f)
 
-      go : (t : Bool) → holds (selector e) b ≡ t → (new : Picked) → offer t (selector e) new → (old : Picked) → Picks es b old → Either new old r → Picks (e ∷ es) b r
+      go : (t : Bool) → holds (selector e) b ≡ t → (new : Picked) → HeldIf t (selector e) new → (old : Picked) → Picks es b old → Either new old r → Picks (e ∷ es) b r
       go false q (Held s) f old c o = absurd f
       go false q Free f old c o = subst (Picks (e ∷ es) b) (sym o) (keep old q c)
       go true q Free f old c o = absurd f
@@ -108,7 +108,7 @@ module _ (f : List ℕ) (n : ℕ) (b : Region) where
       none-left n = omega arith
 
   pub pick-again : (i : ℕ) (new old r : Picked) → i ≤ n → 0 < i → Picks (entriesFrom f (recordSize * i) (n - i)) (ranges b) old
-      → offer (holds (selector (entryAt f (recordSize * (i - 1)))) (ranges b)) (selector (entryAt f (recordSize * (i - 1)))) new → Either new old r
+      → HeldIf (holds (selector (entryAt f (recordSize * (i - 1)))) (ranges b)) (selector (entryAt f (recordSize * (i - 1)))) new → Either new old r
       → Picks (entriesFrom f (recordSize * (i - 1)) (n - (i - 1))) (ranges b) r
   pick-again i new old r l m c e o =
       subst (λ (j : ℕ). Picks (entriesFrom f (recordSize * (i - 1)) j) (ranges b) r) (sym (one-more n i l m))

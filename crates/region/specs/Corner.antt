@@ -38,12 +38,12 @@ abbrev pub Picks : List Entry → Box → Picked → Type 0
 Picks es b (Held s) = (holds (ranges s) b ≡ true) × OneOf (ranges s) es
 Picks es b Free = missed es (header (lows arity b)) ≡ true
 
--- the first if the test holds
-abbrev pub offer : Bool → Box → Picked → Type 0
-offer true s (Held r) = ranges r ≡ s
-offer true s Free = ⊥
-offer false s (Held r) = ⊥
-offer false s Free = Unit {0}
+-- the selector s where the test holds, and nothing elsewhere
+abbrev pub HeldIf : Bool → Box → Picked → Type 0
+HeldIf true s (Held r) = ranges r ≡ s
+HeldIf true s Free = ⊥
+HeldIf false s (Held r) = ⊥
+HeldIf false s Free = Unit {0}
 
 -- one of two picks, and free only if both are
 abbrev pub Either : Picked → Picked → Picked → Type 0

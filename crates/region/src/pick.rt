@@ -14,7 +14,7 @@ ghost use Rattle.policy.specs.Header.{ranges};
 ghost use Rattle.policy.specs.Entry.{selector};
 ghost use Rattle.wire.specs.Format.{recordSize, number2, number4, entryAt};
 ghost use Rattle.region.specs.Records.{recordsIn};
-ghost use Rattle.region.specs.Corner.{holds, Picks, offer, Either};
+ghost use Rattle.region.specs.Corner.{holds, Picks, HeldIf, Either};
 
 // The selector of a record that holds a corner, or no record holds it.
 pub enum Picked {
@@ -84,7 +84,7 @@ fn holds_corner(s: &[u8], at: usize, b: Region) -> bool
 // The selector of the record at a place, if it holds the low corner of b.
 fn offered(s: &[u8], at: usize, b: Region) -> Picked
     requires { ⌜ at + recordSize ≤ length (now s) ⌝ }
-    ensures { λ r. ⌜ offer (holds (selector (entryAt (now (s .entry)) at)) (ranges b)) (selector (entryAt (now (s .entry)) at)) r ⌝ }
+    ensures { λ r. ⌜ HeldIf (holds (selector (entryAt (now (s .entry)) at)) (ranges b)) (selector (entryAt (now (s .entry)) at)) r ⌝ }
 {
     if holds_corner(s, at, b) {
         return Picked::Held(read_selector(s, at));

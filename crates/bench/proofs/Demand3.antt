@@ -1,0 +1,225 @@
+-- Demand 3 of what a merging answers and writes, with covering lists in force whose merged list reads back from its file.
+-- Assumes nothing.
+use Prim.Native.Nat.{ℕ, zero, suc, _≤_, _<_}
+use native.Mathlib.Omega.{arith}
+use mathlib.Core.Path.{_≡_, refl, sym, _∙_, ap, subst}
+use mathlib.Core.Logic.{_↔_, _⊎_, inl, inr}
+use mathlib.Core.Bool.{Bool, true, false, not, cond}
+use mathlib.Core.List.{List, [], _∷_, _++_, append-nil}
+use lib.Dec.{ltb}
+use lib.ListN.{length, take, drop, getD}
+use lib.Seq.{take-at}
+use borrow.Author.Tests.{ltb-true, ltb-false, lt-ltb, le-ltb}
+use Rattle.policy.specs.declared.header.Header.{Header}
+use Rattle.policy.specs.declared.header.Found.{Found}
+use Rattle.policy.specs.declared.header.Found.the-variants.{At, Nothing}
+use Rattle.policy.specs.declared.entry.Entry.{Entry}
+use Rattle.policy.specs.declared.refusal.Refusal.{Refusal}
+use Rattle.policy.specs.declared.refusal.Refusal.the-variants.{Bare, Crowded, Conflict, Narrow}
+use Rattle.policy.specs.Header.{before, among, headers}
+use Rattle.policy.specs.Policy.{allowed, isCaught, caught, Covering}
+use Rattle.policy.specs.Refusals.{Answer, refusal, accepted, isAccepted, numbers, refuse, firstOf}
+use Rattle.policy.proofs.Bool.{case, clash, is-false, not-true}
+use Rattle.policy.proofs.Rows.{refusal-clash}
+use Rattle.wire.specs.Format.{listIn, fileSize, fileOf}
+use Rattle.reconcile.specs.Crossproduct.{In}
+use Rattle.reconcile.specs.Rules.{Working, list, crowded, working, Merging, bare, overfull, conflict, merged, finished, mergeOf, conflictOf, commonActions, lacking, isEmpty, permits, allPermit, same}
+use Rattle.reconcile.proofs.Decide.{Witness}
+use Rattle.reconcile.proofs.Common.{same-by, common-permits, common-caught, empty-permits, permits-empty}
+use Rattle.reconcile.proofs.Merging.{Merges, merges, crowded-list, merged-allows, merged-permits, merged-reconciles, merged-widest, merged-tight, merged-covers, Conflicts, conflict-tells, conflict-made, conflict-some, accepted-when}
+use Rattle.wire.specs.Answers.{ifAccepted}
+use Rattle.wire.specs.Writing.{placed, tooNarrow}
+use Rattle.wire.proofs.Records.{length-file}
+use Rattle.reconcile.specs.Ending.{answerOf, fileFor}
+use Rattle.bench.specs.Demand3.{NoCommonAction, LeastWithout, InForceAndRoomy, Accepted, MergedList, Demand3}
+use Rattle.bench.proofs.Trace.{AllCovering}
+
+-- a merged list is read again from the start of what holds its file
+abbrev pub ReadsBack : List (List Entry) → Type 0
+ReadsBack ps = (m : List Entry) → mergeOf headers ps ≡ merged m → (r : List ℕ) → listIn (fileOf m ++ r) ≡ m
+
+-- ---- answers tell cases apart
+
+number-apart {ℓ} : {A : Type ℓ} (a b : Answer) → a ≡ b → (a .number ≡ b .number → ⊥) → A
+number-apart a b e n = absurd (n (ap (λ (x : Answer). x .number) e))
+
+-- the header that a conflict names
+same-conflict : (h g : Header) → refusal (Conflict h) ≡ refusal (Conflict g) → h ≡ g
+same-conflict h g e = λ i. record {
+  local = at 0 i;
+  remote = at 1 i;
+  «local_port» = at 2 i;
+  «remote_port» = at 3 i;
+  protocol = at 4 i;
+}
+  where
+    at : (n : ℕ) → getD (numbers h) n 0 ≡ getD (numbers g) n 0
+    at n = ap (λ (a : Answer). getD (a .values) n 0) e
+
+-- ---- no action in common
+
+module _ (p : List Entry) (ps : List (List Entry)) (covering : AllCovering (p ∷ ps)) (h : Header) (member : among headers h ≡ true) where
+  pub none-common : lacking (p ∷ ps) h ≡ true → NoCommonAction (p ∷ ps) h
+  none-common e k = sym (common-permits k p ps h) ∙ empty-permits (commonActions (p ∷ ps) h) e k
+
+  pub common-none : NoCommonAction (p ∷ ps) h → lacking (p ∷ ps) h ≡ true
+  common-none n =
+      permits-empty (commonActions (p ∷ ps) h) (common-caught h p ps λ q i. covering q i h member) λ k. common-permits k p ps h ∙ n k
+
+-- ---- the merged list
+
+module _ (p : List Entry) (ps : List (List Entry)) (covering : AllCovering (p ∷ ps)) (m : List Entry) (e : mergeOf headers (p ∷ ps) ≡ merged m) where
+  pub merged-list-is : MergedList (p ∷ ps) m (length m)
+  merged-list-is = record {
+    count = refl;
+    exactly = λ h a k. merged-permits headers p ps m e k h a;
+    covering = merged-covers headers p ps m e covering;
+    reconciles = merged-reconciles headers p ps m e;
+    widest = λ q c r. merged-widest headers p ps m e q r;
+    tight = λ front d back w. struck (front ++ back) (merged-tight headers p ps m e front d back w);
+  }
+    where
+      struck : (q : List Entry) → Witness headers (λ h. not (same (allowed q h) (allowed m h)))
+          → (h : Header) × (among headers h ≡ true) × ((caught q h ≡ false) ⊎ (allowed q h ≡ allowed m h → ⊥))
+      struck q w = (w .header, w .member, inr λ s. clash (same-by (allowed q (w .header)) (allowed m (w .header)) s) (not-true (w .holds)))
+
+-- ---- by the cases of the rules
+
+module _ (buffer : List ℕ) where
+  abbrev answerTo : Merging → Answer
+  answerTo r = answerOf r buffer
+
+  -- the buffer afterwards
+  abbrev bufferAfter : Merging → List ℕ
+  bufferAfter r = ifAccepted (answerOf r buffer) (placed (fileFor r) buffer) buffer
+
+  -- a merged list is accepted, or the buffer is narrow
+  apart-merged {ℓ} : {A : Type ℓ} (m : List Entry) (r : Answer) → answerTo (merged m) ≡ r → (r .number ≡ 0 → ⊥) → (r .number ≡ 11 → ⊥) → A
+  apart-merged {A = A} m r e a n = go (ltb (length buffer) (fileSize (length m))) e
+    where
+      go : (b : Bool) → firstOf (refuse b (Narrow (fileSize (length m))) ∷ []) (accepted (length m ∷ fileSize (length m) ∷ [])) ≡ r → A
+      go true e = absurd (n (sym (ap (λ (x : Answer). x .number) e)))
+      go false e = absurd (a (sym (ap (λ (x : Answer). x .number) e)))
+
+  -- what the answer says of the merging
+  told-bare : (r : Merging) → answerTo r ≡ refusal Bare → r ≡ bare
+  told-bare bare e = refl
+  told-bare overfull e = number-apart (refusal Crowded) (refusal Bare) e λ z. omega arith
+  told-bare (conflict h) e = number-apart (refusal (Conflict h)) (refusal Bare) e λ z. omega arith
+  told-bare (merged m) e = apart-merged m (refusal Bare) e (λ z. omega arith) (λ z. omega arith)
+
+  told-crowded : (r : Merging) → answerTo r ≡ refusal Crowded → r ≡ overfull
+  told-crowded bare e = number-apart (refusal Bare) (refusal Crowded) e λ z. omega arith
+  told-crowded overfull e = refl
+  told-crowded (conflict h) e = number-apart (refusal (Conflict h)) (refusal Crowded) e λ z. omega arith
+  told-crowded (merged m) e = apart-merged m (refusal Crowded) e (λ z. omega arith) (λ z. omega arith)
+
+  told-conflict : (r : Merging) (h : Header) → answerTo r ≡ refusal (Conflict h) → r ≡ conflict h
+  told-conflict bare h e = number-apart (refusal Bare) (refusal (Conflict h)) e λ z. omega arith
+  told-conflict overfull h e = number-apart (refusal Crowded) (refusal (Conflict h)) e λ z. omega arith
+  told-conflict (conflict g) h e = ap conflict (same-conflict g h e)
+  told-conflict (merged m) h e = apart-merged m (refusal (Conflict h)) e (λ z. omega arith) (λ z. omega arith)
+
+  -- an acceptance: the file stands at the start of the buffer
+  pub record Wrote (r : Merging) (n l : ℕ) : Type 0 where
+    pub list : List Entry
+    pub is : r ≡ merged list
+    pub count : length list ≡ n
+    pub size : fileSize (length list) ≡ l
+    pub after : bufferAfter r ≡ placed (fileOf list) buffer
+
+  told-accepted : (r : Merging) (n l : ℕ) → answerTo r ≡ accepted (n ∷ l ∷ []) → Wrote r n l
+  told-accepted bare n l e = number-apart (refusal Bare) (accepted (n ∷ l ∷ [])) e λ z. omega arith
+  told-accepted overfull n l e = number-apart (refusal Crowded) (accepted (n ∷ l ∷ [])) e λ z. omega arith
+  told-accepted (conflict h) n l e = number-apart (refusal (Conflict h)) (accepted (n ∷ l ∷ [])) e λ z. omega arith
+  told-accepted (merged m) n l e = go (ltb (length buffer) (fileSize (length m))) refl e
+    where
+      go : (b : Bool) → ltb (length buffer) (fileSize (length m)) ≡ b
+          → firstOf (refuse b (Narrow (fileSize (length m))) ∷ []) (accepted (length m ∷ fileSize (length m) ∷ [])) ≡ accepted (n ∷ l ∷ []) → Wrote (merged m) n l
+      go true t e = number-apart (refusal (Narrow (fileSize (length m)))) (accepted (n ∷ l ∷ [])) e λ z. omega arith
+      go false t e = record {
+        list = m;
+        is = refl;
+        count = ap (λ (a : Answer). getD (a .values) 0 0) e;
+        size = ap (λ (a : Answer). getD (a .values) 1 0) e;
+        after = ap (λ (b : Bool). ifAccepted (firstOf (refuse b (Narrow (fileSize (length m))) ∷ []) (accepted (length m ∷ fileSize (length m) ∷ []))) (placed (fileOf m) buffer) buffer) t;
+      }
+
+  -- a refusal leaves the buffer
+  pub left-alone : (r : Merging) → isAccepted (answerTo r) ≡ false → bufferAfter r ≡ buffer
+  left-alone r e = ap (λ (b : Bool). cond b (placed (fileFor r) buffer) buffer) e
+
+  written : (ps : List (List Entry)) (m : List Entry) → mergeOf headers ps ≡ merged m → Accepted ps buffer (answerTo (mergeOf headers ps)) (bufferAfter (mergeOf headers ps))
+  written ps m e = record {
+    list = m;
+    by-the-rules = e;
+    long-enough = λ l. (ap answerTo e ∙ fits (le-ltb (length buffer) (fileSize (length m)) l), ap bufferAfter e ∙ file (le-ltb (length buffer) (fileSize (length m)) l));
+    too-short = λ l. ap answerTo e ∙ short (lt-ltb (length buffer) (fileSize (length m)) l);
+  }
+    where
+      fits : ltb (length buffer) (fileSize (length m)) ≡ false → answerTo (merged m) ≡ accepted (length m ∷ fileSize (length m) ∷ [])
+      fits t = ap (λ (b : Bool). firstOf (refuse b (Narrow (fileSize (length m))) ∷ []) (accepted (length m ∷ fileSize (length m) ∷ []))) t
+
+      file : ltb (length buffer) (fileSize (length m)) ≡ false → bufferAfter (merged m) ≡ placed (fileOf m) buffer
+      file t = ap (λ (b : Bool). ifAccepted (firstOf (refuse b (Narrow (fileSize (length m))) ∷ []) (accepted (length m ∷ fileSize (length m) ∷ []))) (placed (fileOf m) buffer) buffer) t
+
+      short : ltb (length buffer) (fileSize (length m)) ≡ true → answerTo (merged m) ≡ refusal (Narrow (fileSize (length m)))
+      short t = ap (λ (b : Bool). firstOf (refuse b (Narrow (fileSize (length m))) ∷ []) (accepted (length m ∷ fileSize (length m) ∷ []))) t
+
+  -- ---- all of it
+
+  pub demand-3 : (ps : List (List Entry)) → AllCovering ps → ReadsBack ps → Demand3 ps buffer (answerOf (mergeOf headers ps) buffer) (ifAccepted (answerOf (mergeOf headers ps) buffer) (placed (fileFor (mergeOf headers ps)) buffer) buffer)
+  demand-3 [] covering back = record {
+    conflict-named = λ h r. absurd r;
+    conflict-found = λ r. absurd r;
+    otherwise = λ r. absurd r;
+    merged-list = λ n l e. number-apart (refusal Bare) (accepted (n ∷ l ∷ [])) e λ z. omega arith;
+    bare = (λ e. refl, λ e. refl);
+    crowded-only = λ e r. r;
+    crowded-when = λ p qs e. absurd (let z : _≡_ {A = ℕ} 0 1 = cc in omega arith);
+    refused = λ e. refl;
+  }
+  demand-3 (p ∷ ps) covering back = record {
+    conflict-named = λ h roomy. (λ e. named h (conflict-tells headers p ps h (told-conflict (mergeOf headers (p ∷ ps)) h e)), λ w. ap answerTo (conflict-made headers p ps h (made h roomy w)));
+    conflict-found = λ roomy h a n. let c = conflict-some headers p ps h roomy a (common-none p ps covering h a n) in (c .0, ap answerTo (c .1));
+    otherwise = λ roomy none.
+        let m = accepted-when headers p ps roomy (λ h a. is-false (lacking (p ∷ ps) h) λ t. none h a (none-common p ps covering h a t)) in
+        written (p ∷ ps) (m .0) (m .1);
+    merged-list = λ n l e. read n l (told-accepted (mergeOf headers (p ∷ ps)) n l e);
+    bare = (λ e. absurd (never-bare (working headers p ps) (conflictOf headers (p ∷ ps)) (told-bare (mergeOf headers (p ∷ ps)) e)), λ e. absurd (let z : _≡_ {A = ℕ} 0 1 = cc in omega arith));
+    crowded-only = λ e roomy. roomy (was-crowded (working headers p ps) (conflictOf headers (p ∷ ps)) (told-crowded (mergeOf headers (p ∷ ps)) e));
+    crowded-when = λ q qs e w. ap answerTo (ap (mergeOf headers) e ∙ ap (λ (v : Working). finished headers v (conflictOf headers (q ∷ qs))) w);
+    refused = left-alone (mergeOf headers (p ∷ ps));
+  }
+    where
+      named : (h : Header) → Conflicts headers p ps h → LeastWithout (p ∷ ps) h
+      named h c = record {
+        member = c .member;
+        lacking = none-common p ps covering h (c .member) (c .empty);
+        earliest = λ g a b n. clash (common-none p ps covering g a n) (c .earliest g a b);
+      }
+
+      made : (h : Header) → (working headers p ps ≡ crowded → ⊥) → LeastWithout (p ∷ ps) h → Conflicts headers p ps h
+      made h roomy w = record {
+        roomy = roomy;
+        member = w .member;
+        empty = common-none p ps covering h (w .member) (w .lacking);
+        earliest = λ g a b. is-false (lacking (p ∷ ps) g) λ t. w .earliest g a b (none-common p ps covering g a t);
+      }
+
+      never-bare : (w : Working) (c : Found) → finished headers w c ≡ bare → ⊥
+      never-bare (list w) (At h) e = let z : _≡_ {A = ℕ} 0 1 = cc in omega arith
+      never-bare (list w) Nothing e = let z : _≡_ {A = ℕ} 0 1 = cc in omega arith
+      never-bare crowded c e = let z : _≡_ {A = ℕ} 0 1 = cc in omega arith
+
+      was-crowded : (w : Working) (c : Found) → finished headers w c ≡ overfull → w ≡ crowded
+      was-crowded (list w) (At h) e = absurd (let z : _≡_ {A = ℕ} 0 1 = cc in omega arith)
+      was-crowded (list w) Nothing e = absurd (let z : _≡_ {A = ℕ} 0 1 = cc in omega arith)
+      was-crowded crowded c e = refl
+
+      read : (n l : ℕ) → Wrote (mergeOf headers (p ∷ ps)) n l → MergedList (p ∷ ps) (listIn (take l (bufferAfter (mergeOf headers (p ∷ ps))))) n
+      read n l w =
+          subst (λ (i : ℕ). MergedList (p ∷ ps) (listIn (take l (bufferAfter (mergeOf headers (p ∷ ps))))) i) (w .count)
+          (subst (λ (m : List Entry). MergedList (p ∷ ps) m (length (w .list)))
+          (sym (ap listIn (ap (take l) (w .after) ∙ take-at (fileOf (w .list)) (drop (length (fileOf (w .list))) buffer) l (length-file (w .list) ∙ w .size) ∙ sym (append-nil (fileOf (w .list)))) ∙ back (w .list) (w .is) []))
+          (merged-list-is p ps covering (w .list) (w .is)))

@@ -1,0 +1,59 @@
+-- What an accepted filing or withdrawal shows, and what the slot of an accepted filing holds.
+-- Assumes nothing.
+use Prim.Native.Nat.{ℕ, _-_, _≤_}
+use native.Mathlib.Omega.{arith}
+use mathlib.Core.Path.{_≡_, refl, sym, _∙_, ap}
+use mathlib.Core.Bool.{Bool, true, false, cond}
+use mathlib.Core.List.{List, [], _∷_, _++_}
+use mathlib.Core.Option.{none, some}
+use lib.Dec.{eqb}
+use lib.ListN.{length, getD, drop, replicate}
+use lib.Seq.{take-append-seam}
+use borrow.Author.Tests.{ne-eqb}
+use Rattle.policy.specs.declared.refusal.Refusal.the-variants.{Party, Vacant}
+use Rattle.policy.specs.Refusals.{accepted, isAccepted, refuse}
+use Rattle.policy.proofs.Rows.{Pass, refuse-refuses, accepted-passes, refuse-passes}
+use Rattle.wire.specs.Format.{headSize, filedLimit, countIn, listIn, fileSize}
+use Rattle.wire.proofs.Checked.{GoodFile}
+use Rattle.wire.proofs.Checks.{limits-told}
+use Rattle.region.specs.Records.{recordsIn}
+use Rattle.region.specs.ListChecks.{listChecks}
+use Rattle.region.proofs.ListChecks.{GoodList, list-refuses, passes-tell, records-of}
+use Rattle.bench.specs.Book.{parties, Book}
+use Rattle.bench.specs.Answers.{badParty, filingOf, isVacant, withdrawalOf}
+use Rattle.bench.specs.Held.{slotSize, slotWith, bytesIn, listInSlot}
+
+-- an accepted filing: the party is one, the file is good and its list covering
+pub record Files (p : ℕ) (s : List ℕ) : Type 0 where
+  pub low : 1 ≤ p
+  pub high : p ≤ parties
+  pub file : GoodList s filedLimit
+
+pub filing-tells : (p : ℕ) (s : List ℕ) → isAccepted (filingOf p s) ≡ true → Files p s
+filing-tells p s e =
+    let rows = accepted-passes (refuse (badParty p) Party ∷ listChecks s filedLimit) (accepted (countIn s ∷ [])) (refuse-refuses (badParty p) Party (listChecks s filedLimit) (list-refuses s filedLimit)) e in
+    let party = refuse-passes (badParty p) Party (listChecks s filedLimit) rows in
+    let between = limits-told parties p (party .0) in
+    record { low = between .0; high = between .1; file = passes-tell s filedLimit (party .1) }
+
+-- an accepted withdrawal: the party is one
+pub withdrawal-tells : (k : Book) (p : ℕ) → isAccepted (withdrawalOf k p) ≡ true → (1 ≤ p) × (p ≤ parties)
+withdrawal-tells k p e = limits-told parties p (refuse-passes (badParty p) Party (refuse vacant Vacant ∷ []) rows .0)
+  where
+    vacant : Bool
+    vacant = isVacant (getD k (p - 1) none)
+
+    rows : Pass (refuse (badParty p) Party ∷ refuse vacant Vacant ∷ [])
+    rows =
+        accepted-passes (refuse (badParty p) Party ∷ refuse vacant Vacant ∷ []) (accepted [])
+        (refuse-refuses (badParty p) Party (refuse vacant Vacant ∷ []) (refuse-refuses vacant Vacant [] tt)) e
+
+-- a slot that was given a good file has its list in force
+pub slot-holds : (s : List ℕ) (limit n : ℕ) → GoodFile s limit n → listInSlot (slotWith s) ≡ some (listIn s)
+slot-holds s limit n g =
+    ap (λ (b : Bool). cond b none (some (recordsIn (drop headSize (bytesIn (slotWith s)))))) (ne-eqb (length s) 0 (positive (length s) (g .size)))
+    ∙ ap (λ (l : List ℕ). some (recordsIn (drop headSize l))) (take-append-seam s (replicate (slotSize - length s) 0))
+    ∙ ap some (records-of s limit n g)
+  where
+    positive : (l : ℕ) → l ≡ fileSize n → l ≡ 0 → ⊥
+    positive l e z = omega arith

@@ -1,0 +1,4 @@
+pub mod Filing
+pub mod Trace
+pub mod Demand3
+pub mod Fitting

@@ -1,0 +1,131 @@
+-- The bench after any list of calls holds the book that 01 reckons, and every list in the book is a filed one.
+-- Assumes nothing.
+use Prim.Native.Nat.{ℕ, zero, suc, _-_, _≤_, _<_}
+use native.Mathlib.Omega.{arith}
+use mathlib.Core.Path.{_≡_, refl, sym, _∙_, ap, subst}
+use mathlib.Core.Logic.{inl, inr}
+use mathlib.Core.Bool.{Bool, true, false, cond}
+use mathlib.Core.List.{List, [], _∷_, _++_, map}
+use mathlib.Core.Option.{Option, none, some}
+use lib.ListN.{length, getD, set, replicate}
+use Rattle.policy.specs.declared.entry.Entry.{Entry}
+use Rattle.policy.specs.Header.{headers}
+use Rattle.policy.specs.Policy.{Covering}
+use Rattle.policy.specs.Refusals.{isAccepted}
+use Rattle.wire.specs.Format.{filedLimit, countIn, listIn}
+use Rattle.reconcile.specs.Crossproduct.{In}
+use Rattle.bench.specs.declared.calls.Slot.{Slot}
+use Rattle.bench.specs.declared.calls.Bench.{Bench}
+use Rattle.bench.specs.Book.{parties, Book, emptyBook, inForce}
+use Rattle.bench.specs.Answers.{filingOf, withdrawalOf}
+use Rattle.bench.specs.Held.{vacantSlot, slotWith, listInSlot, bookOf, openBench, withSlot}
+use Rattle.bench.specs.Calls.{Call, filing, withdrawal, merging, benchStep, benchFrom, benchAfter, bookStep, bookFrom, bookAfter}
+use Rattle.bench.proofs.Filing.{Files, filing-tells, slot-holds}
+
+-- ---- one call more
+
+pub bench-more : (cs : List Call) (c : Call) → benchAfter (cs ++ c ∷ []) ≡ benchStep (benchAfter cs) c
+unfolding benchAfter
+bench-more cs c = go openBench cs
+  where
+    go : (b : Bench) (cs : List Call) → benchFrom b (cs ++ c ∷ []) ≡ benchStep (benchFrom b cs) c
+    go b [] = refl
+    go b (d ∷ cs) = go (benchStep b d) cs
+
+pub book-more : (cs : List Call) (c : Call) → bookAfter (cs ++ c ∷ []) ≡ bookStep (bookAfter cs) c
+unfolding bookAfter
+book-more cs c = go emptyBook cs
+  where
+    go : (k : Book) (cs : List Call) → bookFrom k (cs ++ c ∷ []) ≡ bookStep (bookFrom k cs) c
+    go k [] = refl
+    go k (d ∷ cs) = go (bookStep k d) cs
+
+-- ---- the bench holds the book
+
+map-set : {A B : Type 0} (f : A → B) (l : List A) (i : ℕ) (a : A) → map f (set l i a) ≡ set (map f l) i (f a)
+map-set f [] i a = refl
+map-set f (x ∷ l) zero a = refl
+map-set f (x ∷ l) (suc i) a = ap (f x ∷_) (map-set f l i a)
+
+-- a call does to the bench what it does to the book
+step-holds : (b : Bench) (c : Call) → bookOf (benchStep b c) ≡ bookStep (bookOf b) c
+step-holds b (filing p s) = go (isAccepted (filingOf p s)) refl
+  where
+    go : (t : Bool) → isAccepted (filingOf p s) ≡ t → bookOf (cond t (withSlot b p (slotWith s)) b) ≡ cond t (set (bookOf b) (p - 1) (some (listIn s))) (bookOf b)
+    go true e =
+        map-set listInSlot (b .slots) (p - 1) (slotWith s)
+        ∙ ap (set (bookOf b) (p - 1)) (slot-holds s filedLimit (countIn s) (filing-tells p s e .file .good))
+    go false e = refl
+step-holds b (withdrawal p) = go (isAccepted (withdrawalOf (bookOf b) p))
+  where
+    go : (t : Bool) → bookOf (cond t (withSlot b p vacantSlot) b) ≡ cond t (set (bookOf b) (p - 1) none) (bookOf b)
+    go true = map-set listInSlot (b .slots) (p - 1) vacantSlot
+    go false = refl
+step-holds b (merging buffer) = refl
+
+from-holds : (b : Bench) (k : Book) (cs : List Call) → bookOf b ≡ k → bookOf (benchFrom b cs) ≡ bookFrom k cs
+from-holds b k [] e = e
+from-holds b k (c ∷ cs) e = from-holds (benchStep b c) (bookStep k c) cs (step-holds b c ∙ ap (λ (j : Book). bookStep j c) e)
+
+pub book-after : (cs : List Call) → bookOf (benchAfter cs) ≡ bookAfter cs
+unfolding benchAfter bookAfter
+book-after cs = from-holds openBench emptyBook cs refl
+
+-- ---- every list in the book was filed
+
+-- every list in force is covering
+abbrev pub AllCovering : List (List Entry) → Type 0
+AllCovering ps = (q : List Entry) → In q ps → Covering headers q
+
+-- what holds of every list in a slot
+abbrev EachSlot : (List Entry → Type 0) → Book → Type 0
+EachSlot P [] = Unit {0}
+EachSlot P (none ∷ k) = EachSlot P k
+EachSlot P (some p ∷ k) = P p × EachSlot P k
+
+module _ (P : List Entry → Type 0) where
+  put : (k : Book) (i : ℕ) (p : List Entry) → P p → EachSlot P k → EachSlot P (set k i (some p))
+  put [] i p a e = tt
+  put (none ∷ k) zero p a e = (a, e)
+  put (some q ∷ k) zero p a e = (a, e .1)
+  put (none ∷ k) (suc i) p a e = put k i p a e
+  put (some q ∷ k) (suc i) p a e = (e .0, put k i p a (e .1))
+
+  emptied : (k : Book) (i : ℕ) → EachSlot P k → EachSlot P (set k i none)
+  emptied [] i e = tt
+  emptied (none ∷ k) zero e = e
+  emptied (some q ∷ k) zero e = e .1
+  emptied (none ∷ k) (suc i) e = emptied k i e
+  emptied (some q ∷ k) (suc i) e = (e .0, emptied k i (e .1))
+
+  in-force : (k : Book) → EachSlot P k → (q : List Entry) → In q (inForce k) → P q
+  in-force [] e q i = absurd i
+  in-force (none ∷ k) e q i = in-force k e q i
+  in-force (some p ∷ k) e q (inl i) = subst P (sym i) (e .0)
+  in-force (some p ∷ k) e q (inr i) = in-force k (e .1) q i
+
+  module _ (filed : (p : ℕ) (s : List ℕ) → Files p s → P (listIn s)) where
+    step-keeps : (k : Book) (c : Call) → EachSlot P k → EachSlot P (bookStep k c)
+    step-keeps k (filing p s) e = go (isAccepted (filingOf p s)) refl
+      where
+        go : (t : Bool) → isAccepted (filingOf p s) ≡ t → EachSlot P (cond t (set k (p - 1) (some (listIn s))) k)
+        go true a = put k (p - 1) (listIn s) (filed p s (filing-tells p s a)) e
+        go false a = e
+    step-keeps k (withdrawal p) e = go (isAccepted (withdrawalOf k p))
+      where
+        go : (t : Bool) → EachSlot P (cond t (set k (p - 1) none) k)
+        go true = emptied k (p - 1) e
+        go false = e
+    step-keeps k (merging buffer) e = e
+
+    from-keeps : (k : Book) (cs : List Call) → EachSlot P k → EachSlot P (bookFrom k cs)
+    from-keeps k [] e = e
+    from-keeps k (c ∷ cs) e = from-keeps (bookStep k c) cs (step-keeps k c e)
+
+    -- what every accepted filing's list has, every list in force has after any list of calls
+    pub all-in-force : (cs : List Call) (q : List Entry) → In q (inForce (bookAfter cs)) → P q
+    unfolding bookAfter
+    all-in-force cs = in-force (bookFrom emptyBook cs) (from-keeps emptyBook cs tt)
+
+pub all-covering : (cs : List Call) → AllCovering (inForce (bookAfter cs))
+all-covering cs = all-in-force (Covering headers) (λ p s f. f .file .covering) cs

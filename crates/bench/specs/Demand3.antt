@@ -1,0 +1,71 @@
+-- Demand 3, sentence by sentence: what a merging keeps to, with the lists `ps` in force, in rising number of their parties.
+-- `answer` is its answer, `buffer` what the lent buffer held before and `after` what it holds then.
+use Prim.Native.Nat.{ℕ, _≤_, _<_}
+use mathlib.Core.Path.{_≡_}
+use mathlib.Core.Logic.{_↔_, _⊎_}
+use mathlib.Core.Bool.{true, false}
+use mathlib.Core.List.{List, [], _∷_, _++_}
+use lib.ListN.{length, take}
+use Rattle.policy.specs.declared.header.Header.{Header}
+use Rattle.policy.specs.declared.entry.Entry.{Entry}
+use Rattle.policy.specs.declared.refusal.Refusal.the-variants.{Bare, Crowded, Conflict, Narrow}
+use Rattle.policy.specs.Header.{before, among, headers}
+use Rattle.policy.specs.Policy.{allowed, caught, Covering, Refines}
+use Rattle.policy.specs.Refusals.{Answer, refusal, accepted, isAccepted}
+use Rattle.wire.specs.Format.{listIn, fileSize, fileOf}
+use Rattle.wire.specs.Writing.{placed}
+use Rattle.reconcile.specs.Crossproduct.{Reconciles}
+use Rattle.reconcile.specs.Rules.{crowded, working, merged, mergeOf, permits, allPermit}
+
+-- no action is common to the header's first matches in all lists in force; action k is bit k
+abbrev pub NoCommonAction : List (List Entry) → Header → Type 0
+NoCommonAction ps h = (k : ℕ) → allPermit k ps h ≡ false
+
+-- h is the least header without a common action
+pub record LeastWithout (ps : List (List Entry)) (h : Header) : Type 0 where
+  pub member : among headers h ≡ true
+  pub lacking : NoCommonAction ps h
+  pub earliest : (g : Header) → among headers g ≡ true → before g h ≡ true → NoCommonAction ps g → ⊥
+
+-- a list is in force, and the working list is within 256 entries after each party
+abbrev pub InForceAndRoomy : List (List Entry) → Type 0
+InForceAndRoomy [] = ⊥
+InForceAndRoomy (p ∷ ps) = working headers p ps ≡ crowded → ⊥
+
+-- m is the list that the rules give; in a long enough buffer the merging is accepted with its file, and in a shorter one refused as narrow
+pub record Accepted (ps : List (List Entry)) (buffer : List ℕ) (answer : Answer) (after : List ℕ) : Type 0 where
+  pub list : List Entry
+  pub by-the-rules : mergeOf headers ps ≡ merged list
+  pub long-enough : fileSize (length list) ≤ length buffer
+      → (answer ≡ accepted (length list ∷ fileSize (length list) ∷ [])) × (after ≡ placed (fileOf list) buffer)
+  pub too-short : length buffer < fileSize (length list) → answer ≡ refusal (Narrow (fileSize (length list)))
+
+-- what is said of the merged list m, of n entries
+pub record MergedList (ps : List (List Entry)) (m : List Entry) (n : ℕ) : Type 0 where
+  -- the answer carries its entry count
+  pub count : length m ≡ n
+  -- it allows each header exactly the common actions
+  pub exactly : (h : Header) → among headers h ≡ true → (k : ℕ) → permits k (allowed m h) ≡ allPermit k ps h
+  -- it is a policy, and refines each list in force
+  pub covering : Covering headers m
+  pub reconciles : Reconciles headers ps m
+  -- every other covering list that refines all lists in force refines it
+  pub widest : (q : List Entry) → Covering headers q → Reconciles headers ps q → Refines headers q m
+  -- striking any one of its entries leaves some header uncaught or allowed a different set
+  pub tight : (front : List Entry) (e : Entry) (back : List Entry) → m ≡ front ++ e ∷ back
+      → (h : Header) × (among headers h ≡ true) × ((caught (front ++ back) h ≡ false) ⊎ (allowed (front ++ back) h ≡ allowed m h → ⊥))
+
+pub record Demand3 (ps : List (List Entry)) (buffer : List ℕ) (answer : Answer) (after : List ℕ) : Type 0 where
+  -- it is refused for conflict exactly when some header has no action common to its first matches in all lists in force
+  pub conflict-named : (h : Header) → InForceAndRoomy ps → (answer ≡ refusal (Conflict h)) ↔ LeastWithout ps h
+  pub conflict-found : InForceAndRoomy ps → (h : Header) → among headers h ≡ true → NoCommonAction ps h → (g : Header) × (answer ≡ refusal (Conflict g))
+  -- otherwise, in a long enough buffer, it is accepted, with the file that 01's rules give
+  pub otherwise : InForceAndRoomy ps → ((h : Header) → among headers h ≡ true → NoCommonAction ps h → ⊥) → Accepted ps buffer answer after
+  -- the merged list is the one read from the start of the buffer, as many bytes as the answer's length says
+  pub merged-list : (n l : ℕ) → answer ≡ accepted (n ∷ l ∷ []) → MergedList ps (listIn (take l after)) n
+  -- bare and crowded exactly in their cases
+  pub bare : (answer ≡ refusal Bare) ↔ (ps ≡ [])
+  pub crowded-only : answer ≡ refusal Crowded → InForceAndRoomy ps → ⊥
+  pub crowded-when : (p : List Entry) (qs : List (List Entry)) → ps ≡ p ∷ qs → working headers p qs ≡ crowded → answer ≡ refusal Crowded
+  -- a refused merging leaves the buffer as it was
+  pub refused : isAccepted answer ≡ false → after ≡ buffer

@@ -1,0 +1,42 @@
+-- The bench's value: what its slots hold, for every value whatever.
+use Prim.Native.Nat.{ℕ, _-_}
+use mathlib.Core.Bool.{Bool, true, false, cond}
+use mathlib.Core.List.{List, [], _∷_, _++_, map}
+use mathlib.Core.Option.{Option, none, some}
+use lib.Dec.{eqb}
+use lib.ListN.{length, take, drop, set, replicate}
+use Rattle.policy.specs.declared.entry.Entry.{Entry}
+use Rattle.wire.specs.Format.{headSize, filedLimit, fileSize}
+use Rattle.region.specs.Records.{recordsIn}
+use Rattle.bench.specs.declared.calls.Slot.{Slot}
+use Rattle.bench.specs.declared.calls.Bench.{Bench}
+use Rattle.bench.specs.Book.{parties, Book}
+
+-- the length of the longest filed file
+abbrev pub slotSize : ℕ
+slotSize = fileSize filedLimit
+
+abbrev pub vacantSlot : Slot
+vacantSlot = record { bytes = replicate slotSize 0; length = 0 }
+
+-- a slot that holds a file
+abbrev pub slotWith : List ℕ → Slot
+slotWith s = record { bytes = s ++ replicate (slotSize - length s) 0; length = length s }
+
+-- the file that a slot holds
+abbrev pub bytesIn : Slot → List ℕ
+bytesIn s = take (s .length) (s .bytes)
+
+-- the list that a slot has in force: the records behind the head of its file
+abbrev pub listInSlot : Slot → Option (List Entry)
+listInSlot s = cond (eqb (s .length) 0) none (some (recordsIn (drop headSize (bytesIn s))))
+
+abbrev pub bookOf : Bench → Book
+bookOf b = map listInSlot (b .slots)
+
+abbrev pub openBench : Bench
+openBench = record { slots = replicate parties vacantSlot }
+
+-- the bench with a slot for the party put in place
+abbrev pub withSlot : Bench → ℕ → Slot → Bench
+withSlot b p s = record { slots = set (b .slots) (p - 1) s }

@@ -1,0 +1,5 @@
+pub mod Book
+pub mod Answers
+pub mod Held
+pub mod Calls
+pub mod Demand3

@@ -1,0 +1,2 @@
+// The bench: the lists of up to 8 parties.
+pub mod calls;
