@@ -14,7 +14,7 @@ use Rattle.policy.specs.Policy.{Covering}
 use Rattle.policy.specs.Refusals.{isAccepted}
 use Rattle.wire.specs.Format.{filedLimit, countIn, listIn}
 use Rattle.reconcile.specs.Crossproduct.{In}
-use Rattle.bench.specs.declared.calls.Slot.{Slot}
+use Rattle.bench.specs.declared.slots.Slot.{Slot}
 use Rattle.bench.specs.declared.calls.Bench.{Bench}
 use Rattle.bench.specs.Book.{parties, Book, emptyBook, inForce}
 use Rattle.bench.specs.Answers.{filingOf, withdrawalOf}
@@ -78,7 +78,7 @@ abbrev pub AllCovering : List (List Entry) → Type 0
 AllCovering ps = (q : List Entry) → In q ps → Covering headers q
 
 -- what holds of every list in a slot
-abbrev EachSlot : (List Entry → Type 0) → Book → Type 0
+abbrev pub EachSlot : (List Entry → Type 0) → Book → Type 0
 EachSlot P [] = Unit {0}
 EachSlot P (none ∷ k) = EachSlot P k
 EachSlot P (some p ∷ k) = P p × EachSlot P k
@@ -98,7 +98,7 @@ module _ (P : List Entry → Type 0) where
   emptied (none ∷ k) (suc i) e = emptied k i e
   emptied (some q ∷ k) (suc i) e = (e .0, emptied k i (e .1))
 
-  in-force : (k : Book) → EachSlot P k → (q : List Entry) → In q (inForce k) → P q
+  pub in-force : (k : Book) → EachSlot P k → (q : List Entry) → In q (inForce k) → P q
   in-force [] e q i = absurd i
   in-force (none ∷ k) e q i = in-force k e q i
   in-force (some p ∷ k) e q (inl i) = subst P (sym i) (e .0)

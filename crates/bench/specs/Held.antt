@@ -8,7 +8,7 @@ use lib.ListN.{length, take, drop, set, replicate}
 use Rattle.policy.specs.declared.entry.Entry.{Entry}
 use Rattle.wire.specs.Format.{headSize, filedLimit, fileSize}
 use Rattle.region.specs.Records.{recordsIn}
-use Rattle.bench.specs.declared.calls.Slot.{Slot}
+use Rattle.bench.specs.declared.slots.Slot.{Slot}
 use Rattle.bench.specs.declared.calls.Bench.{Bench}
 use Rattle.bench.specs.Book.{parties, Book}
 

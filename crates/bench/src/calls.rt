@@ -1,11 +1,24 @@
-// What the calls on a bench answer and hand back.
+// The calls on a bench: it is handed to each and handed back.
+use crate::slots::Slot;
+use crate::slots::add_slot;
+use crate::slots::slot_with;
+use crate::slots::vacant_slot;
 use policy::refusal::Refusal;
-
-// The bytes of a party's filed list, as many as length says; 0 where the party has none.
-pub struct Slot {
-    pub bytes: [u8; 901],
-    pub length: usize,
-}
+use reconcile::ending::Merged;
+use reconcile::ending::end_merging;
+use reconcile::stage::no_lists;
+use region::covering::check_list;
+use wire::check::Checked;
+use wire::format::FILED_LIMIT;
+ghost use mathlib.Core.Path.{_≡_};
+ghost use mathlib.Core.List.{List, [], _∷_, _++_};
+ghost use Prim.Native.Nat.{ℕ};
+ghost use Rattle.policy.specs.Refusals.{Answer};
+ghost use Rattle.bench.specs.Book.{inForce};
+ghost use Rattle.bench.specs.Answers.{filed, filingOf, withdrew, withdrawalOf, mergedAs, mergingOf};
+ghost use Rattle.bench.specs.Held.{bookOf, openBench};
+ghost use Rattle.bench.specs.Calls.{Call, filing, withdrawal, merging, benchFiled, benchWithdrawn, benchAfter, bookAfter};
+ghost use Rattle.bench.specs.Demand3.{Demand3};
 
 pub struct Bench {
     pub slots: [Slot; 8],
@@ -41,4 +54,112 @@ pub enum MergeAnswer {
 pub struct MergeResult {
     pub bench: Bench,
     pub answer: MergeAnswer,
+}
+
+impl Bench {
+    // A bench with no filings.
+    pub fn open() -> Bench
+        ensures { λ r. ⌜ r ≡ openBench ⌝ }
+        ensures traced { λ r. ⌜ benchAfter [] ≡ r ⌝ }
+    {
+        let vacant = vacant_slot();
+        Bench { slots: [vacant; 8] }
+    }
+
+    // Files a list for a party, over the one that it has.
+    pub fn file(self, party: u8, bytes: &[u8]) -> FileResult
+        ensures { λ r. ⌜ (filed (r .answer) ≡ filingOf party (now (bytes .entry))) × (r .bench ≡ benchFiled self party (now (bytes .entry))) ⌝ }
+        ensures traced { λ r. ⌜ ((cs : List Call) → benchAfter cs ≡ self → benchAfter (cs ++ (filing party (now (bytes .entry)) ∷ [])) ≡ r .bench) ⌝ }
+    {
+        if party < 1 {
+            return FileResult {
+                bench: self,
+                answer: FileAnswer::Refused(Refusal::Party),
+            };
+        }
+        if 8 < party {
+            return FileResult {
+                bench: self,
+                answer: FileAnswer::Refused(Refusal::Party),
+            };
+        }
+        let checked = check_list(bytes, FILED_LIMIT);
+        match checked {
+            Checked::Refused(r) => FileResult {
+                bench: self,
+                answer: FileAnswer::Refused(r),
+            },
+            Checked::Good(n) => {
+                let at = (party - 1) as usize;
+                let slot = slot_with(bytes);
+                let mut next = self;
+                next.slots[at] = slot;
+                FileResult {
+                    bench: next,
+                    answer: FileAnswer::Filed(n),
+                }
+            }
+        }
+    }
+
+    // Ends a party's list.
+    pub fn withdraw(self, party: u8) -> WithdrawResult
+        ensures { λ r. ⌜ (withdrew (r .answer) ≡ withdrawalOf (bookOf self) party) × (r .bench ≡ benchWithdrawn self party) ⌝ }
+        ensures traced { λ r. ⌜ ((cs : List Call) → benchAfter cs ≡ self → benchAfter (cs ++ (withdrawal party ∷ [])) ≡ r .bench) ⌝ }
+    {
+        if party < 1 {
+            return WithdrawResult {
+                bench: self,
+                answer: WithdrawAnswer::Refused(Refusal::Party),
+            };
+        }
+        if 8 < party {
+            return WithdrawResult {
+                bench: self,
+                answer: WithdrawAnswer::Refused(Refusal::Party),
+            };
+        }
+        let at = (party - 1) as usize;
+        let old = self.slots[at];
+        if old.length == 0 {
+            return WithdrawResult {
+                bench: self,
+                answer: WithdrawAnswer::Refused(Refusal::Vacant),
+            };
+        }
+        let slot = vacant_slot();
+        let mut next = self;
+        next.slots[at] = slot;
+        WithdrawResult {
+            bench: next,
+            answer: WithdrawAnswer::Withdrawn,
+        }
+    }
+
+    // Merges the lists in force into a lent buffer.
+    pub fn merge(self, out: &mut [u8]) -> MergeResult
+        ensures { λ r. ⌜ (r .bench ≡ self) × _≡_ {A = Answer × List ℕ} (mergedAs (r .answer), now (out .exit)) (mergingOf (bookOf self) (now (out .entry))) ⌝ }
+        ensures traced { λ r. ⌜ ((cs : List Call) → benchAfter cs ≡ self
+            → (benchAfter (cs ++ (merging (now (out .entry)) ∷ [])) ≡ r .bench)
+            × Demand3 (inForce (bookAfter cs)) (now (out .entry)) (mergedAs (r .answer)) (now (out .exit))) ⌝ }
+    {
+        let mut stage = no_lists();
+        let mut i: usize = 0;
+        while i < 8 {
+            let slot = self.slots[i];
+            stage = add_slot(stage, slot);
+            i += 1;
+        }
+        let merged = end_merging(stage, out);
+        match merged {
+            Merged::Done { count, length } => MergeResult {
+                bench: self,
+                answer: MergeAnswer::Merged { count, length },
+            },
+            Merged::Refused(r) => MergeResult {
+                bench: self,
+                answer: MergeAnswer::Refused(r),
+            },
+        }
+    }
 }

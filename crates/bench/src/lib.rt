@@ -1,2 +1,3 @@
-// The bench: the lists of up to 8 parties.
+// The bench: the lists of up to 8 parties, filed, withdrawn and merged.
 pub mod calls;
+pub mod slots;

@@ -3,4 +3,3 @@ pub mod FirstMatch
 pub mod PackedMatch
 pub mod FileLookup
 pub mod TableLookup
-pub mod Examples

@@ -13,4 +13,3 @@ pub mod Staging
 pub mod Finishing
 pub mod Writing
 pub mod Model
-pub mod Examples

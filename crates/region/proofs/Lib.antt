@@ -9,5 +9,4 @@ pub mod Uses
 pub mod Judging
 pub mod Searching
 pub mod Model
-pub mod Examples
 pub mod ListChecks

@@ -1,86 +1,65 @@
+-- A refusal is said of its file; where both pass, the excess decides.
+-- Assumes nothing.
 use Rattle.region.proofs.ListChecks.{list-has-head}
 use Rattle.compare.proofs.Rows.{first-refused, second-refused, says-refines, says-exceeds}
 use borrow.Author.Needs.{needs}
 use Rattle.compare.proofs.files.compare_files.Statement.{statement}
 use Rattle.compare.proofs.files.compare_files.Tie as tie
-use Rattle.compare.proofs.files.compare_files.Reads as reads
-use Rattle.compare.proofs.files.compare_files.Lts as lts
-use Rattle.compare.proofs.excess.least_excess.Reads as least-excess-reads
-use Rattle.region.proofs.covering.check_list.Reads as check-list-reads
 
--- src/files.rt:27:11
 check-list-requires : tie.Need-check-list-requires
 check-list-requires c κs = search needs
 
--- src/files.rt:28:26
 enum-known-r : tie.Need-enum-known-r
 enum-known-r c = search needs
 
--- src/files.rt:29:35
 enum-told : tie.Need-enum-told
 enum-told c = search needs
 
--- src/files.rt:29:35
 check-list-requires-2 : tie.Need-check-list-requires-2
 check-list-requires-2 c κs = search needs
 
--- src/files.rt:30:30
 enum-known-r-2 : tie.Need-enum-known-r-2
 enum-known-r-2 c = search needs
 
--- src/files.rt:31:52
 enum-told-2 : tie.Need-enum-told-2
 enum-told-2 c = search needs
 
--- src/files.rt:31:52
 sub-least-excess : tie.Need-sub-least-excess
 sub-least-excess c = search list-has-head
 
--- src/files.rt:31:52
 part-least-excess-start : tie.Need-part-least-excess-start
 part-least-excess-start c = search list-has-head
 
--- src/files.rt:31:52
 part-least-excess-end : tie.Need-part-least-excess-end
 part-least-excess-end c = search needs
 
--- src/files.rt:31:73
 sub-least-excess-2 : tie.Need-sub-least-excess-2
 sub-least-excess-2 c = search list-has-head
 
--- src/files.rt:31:73
 part-least-excess-start-2 : tie.Need-part-least-excess-start-2
 part-least-excess-start-2 c = search list-has-head
 
--- src/files.rt:31:73
 part-least-excess-end-2 : tie.Need-part-least-excess-end-2
 part-least-excess-end-2 c = search needs
 
--- src/files.rt:31:39
 least-excess-requires : tie.Need-least-excess-requires
 least-excess-requires c κs = search needs
 
--- src/files.rt:32:35
 enum-told-3 : tie.Need-enum-told-3
 enum-told-3 c = search needs
 
--- src/files.rt:33:27
 enum-known-h : tie.Need-enum-known-h
 enum-known-h c = search needs
 
--- src/files.rt:24:1
 returns : tie.Need-returns
 returns c = search (first-refused, second-refused, says-refines, says-exceeds)
 
--- src/files.rt:24:1
 returns-2 : tie.Need-returns-2
 returns-2 c = search (first-refused, second-refused, says-refines, says-exceeds)
 
--- src/files.rt:24:1
 returns-3 : tie.Need-returns-3
 returns-3 c = search (first-refused, second-refused, says-refines, says-exceeds)
 
--- src/files.rt:24:1
 returns-4 : tie.Need-returns-4
 returns-4 c = search (first-refused, second-refused, says-refines, says-exceeds)
 

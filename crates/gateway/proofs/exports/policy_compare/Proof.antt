@@ -1,78 +1,58 @@
+-- Each answer has its number, and the buffer its bytes.
+-- Assumes nothing.
 use Rattle.gateway.proofs.Numbers.{says-yes, says-no, refuses-first, refuses-second}
 use borrow.Author.Needs.{needs}
 use Rattle.gateway.proofs.exports.policy_compare.Statement.{statement}
 use Rattle.gateway.proofs.exports.policy_compare.Tie as tie
-use Rattle.gateway.proofs.exports.policy_compare.Reads as reads
-use Rattle.gateway.proofs.exports.policy_compare.Lts as lts
-use Rattle.compare.proofs.files.compare_files.Reads as compare-files-reads
-use Rattle.gateway.proofs.exports.put_header.Reads as put-header-reads
-use Rattle.policy.proofs.refusal.number_of.Reads as number-of-reads
 
--- src/exports.rt:55:11
 compare-files-requires : tie.Need-compare-files-requires
 compare-files-requires c κs = search needs
 
--- src/exports.rt:56:30
 enum-told : tie.Need-enum-told
 enum-told c = search needs
 
--- src/exports.rt:57:27
 enum-known-h : tie.Need-enum-known-h
 enum-known-h c = search needs
 
--- src/exports.rt:58:13
 put-header-requires : tie.Need-put-header-requires
 put-header-requires c κs = search needs
 
--- src/exports.rt:61:25
 enum-known-r : tie.Need-enum-known-r
 enum-known-r c = search needs
 
--- src/exports.rt:61:37
 number-of-requires : tie.Need-number-of-requires
 number-of-requires c κs = search needs
 
--- src/exports.rt:61:37
 cast-result : tie.Need-cast-result
 cast-result c = search needs
 
--- src/exports.rt:61:31
 add-result : tie.Need-add-result
 add-result c = search needs
 
--- src/exports.rt:62:26
 enum-known-r-2 : tie.Need-enum-known-r-2
 enum-known-r-2 c = search needs
 
--- src/exports.rt:62:38
 number-of-requires-2 : tie.Need-number-of-requires-2
 number-of-requires-2 c κs = search needs
 
--- src/exports.rt:62:38
 cast-result-2 : tie.Need-cast-result-2
 cast-result-2 c = search needs
 
--- src/exports.rt:62:32
 add-result-2 : tie.Need-add-result-2
 add-result-2 c = search needs
 
--- src/exports.rt:50:1
 returns : tie.Need-returns
 returns c = search says-yes
 
--- src/exports.rt:50:1
 same-length : tie.Need-same-length
 same-length c = search needs
 
--- src/exports.rt:50:1
 returns-2 : tie.Need-returns-2
 returns-2 c = search says-no
 
--- src/exports.rt:50:1
 returns-3 : tie.Need-returns-3
 returns-3 c = search refuses-first
 
--- src/exports.rt:50:1
 returns-4 : tie.Need-returns-4
 returns-4 c = search refuses-second
 

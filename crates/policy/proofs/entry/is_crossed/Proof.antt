@@ -1,3 +1,5 @@
+-- Crossed is not proper, of the selector.
+-- Assumes nothing.
 use mathlib.Core.Path.{_∙_, ap}
 use mathlib.Core.Bool.{not}
 use Rattle.policy.specs.Box.{proper}
@@ -10,15 +12,12 @@ use Rattle.policy.proofs.entry.is_crossed.Lts as lts
 use Rattle.policy.proofs.entry.selector_of.Reads as selector-of-reads
 use Rattle.policy.proofs.region.is_proper.Reads as is-proper-reads
 
--- src/entry.rt:70:16
 selector-of-requires : tie.Need-selector-of-requires
 selector-of-requires c κs = search needs
 
--- src/entry.rt:70:6
 is-proper-requires : tie.Need-is-proper-requires
 is-proper-requires c κs = search needs
 
--- src/entry.rt:67:1
 returns : tie.Need-returns
 returns c = ap not (c .is-proper .ensures ∙ ap (proper arity) (c .before .selector-of .ensures))
 

@@ -1,3 +1,5 @@
+-- An entry matches what lies in its selector.
+-- Assumes nothing.
 use mathlib.Core.Path.{_∙_, ap}
 use Rattle.policy.specs.Header.{Box, lies}
 use borrow.Author.Needs.{needs}
@@ -8,15 +10,12 @@ use Rattle.policy.proofs.entry.matches_header.Lts as lts
 use Rattle.policy.proofs.entry.selector_of.Reads as selector-of-reads
 use Rattle.policy.proofs.region.holds.Reads as holds-reads
 
--- src/entry.rt:63:11
 selector-of-requires : tie.Need-selector-of-requires
 selector-of-requires c κs = search needs
 
--- src/entry.rt:63:5
 holds-requires : tie.Need-holds-requires
 holds-requires c κs = search needs
 
--- src/entry.rt:60:1
 returns : tie.Need-returns
 returns c = c .holds .ensures ∙ ap (λ (b : Box). lies b (c .before .before .args .h)) (c .before .selector-of .ensures)
 

@@ -1,3 +1,5 @@
+-- Each arm is a case of `lesser`.
+-- Assumes nothing.
 use Rattle.policy.proofs.Branches.{lesser-first, lesser-earlier, lesser-kept}
 use borrow.Author.Needs.{needs}
 use Rattle.policy.proofs.header.lesser_of.Statement.{statement}
@@ -6,39 +8,30 @@ use Rattle.policy.proofs.header.lesser_of.Reads as reads
 use Rattle.policy.proofs.header.lesser_of.Lts as lts
 use Rattle.policy.proofs.header.is_before.Reads as is-before-reads
 
--- src/header.rt:45:27
 enum-told : tie.Need-enum-told
 enum-told c = search needs
 
--- src/header.rt:46:19
 enum-known-a : tie.Need-enum-known-a
 enum-known-a c = search needs
 
--- src/header.rt:47:31
 enum-told-2 : tie.Need-enum-told-2
 enum-told-2 c = search needs
 
--- src/header.rt:48:23
 enum-known-b : tie.Need-enum-known-b
 enum-known-b c = search needs
 
--- src/header.rt:49:20
 is-before-requires : tie.Need-is-before-requires
 is-before-requires c κs = search needs
 
--- src/header.rt:41:1
 returns : tie.Need-returns
 returns c = search needs
 
--- src/header.rt:41:1
 returns-2 : tie.Need-returns-2
 returns-2 c = search lesser-first
 
--- src/header.rt:41:1
 returns-3 : tie.Need-returns-3
 returns-3 c = search lesser-earlier
 
--- src/header.rt:41:1
 returns-4 : tie.Need-returns-4
 returns-4 c = search lesser-kept
 

@@ -1,3 +1,5 @@
+-- In each branch the ends are the greater low and the lesser high.
+-- Assumes nothing.
 use native.Mathlib.Omega.{arith}
 use Rattle.policy.proofs.Branches.{ends-are}
 use Rattle.policy.proofs.region.common_part.Statement.{statement}
@@ -5,19 +7,15 @@ use Rattle.policy.proofs.region.common_part.Tie as tie
 use Rattle.policy.proofs.region.common_part.Reads as reads
 use Rattle.policy.proofs.region.common_part.Lts as lts
 
--- src/region.rt:44:13
 returns : tie.Need-returns
 returns c = ends-are (omega arith) (omega arith)
 
--- src/region.rt:46:9
 returns-2 : tie.Need-returns-2
 returns-2 c = ends-are (omega arith) (omega arith)
 
--- src/region.rt:52:9
 returns-3 : tie.Need-returns-3
 returns-3 c = ends-are (omega arith) (omega arith)
 
--- src/region.rt:39:1
 returns-4 : tie.Need-returns-4
 returns-4 c = ends-are (omega arith) (omega arith)
 

@@ -1,3 +1,5 @@
+-- Each test takes one range off the row.
+-- Assumes nothing.
 use Rattle.policy.proofs.Branches.{stops, goes-on, ends}
 use borrow.Author.Needs.{needs}
 use Rattle.policy.proofs.region.holds.Statement.{statement}
@@ -6,55 +8,42 @@ use Rattle.policy.proofs.region.holds.Reads as reads
 use Rattle.policy.proofs.region.holds.Lts as lts
 use Rattle.policy.proofs.region.is_within.Reads as is-within-reads
 
--- src/region.rt:53:9
 is-within-requires : tie.Need-is-within-requires
 is-within-requires c κs = search needs
 
--- src/region.rt:54:9
 returns : tie.Need-returns
 returns c = search (stops, goes-on, ends) depth 12
 
--- src/region.rt:56:9
 is-within-requires-2 : tie.Need-is-within-requires-2
 is-within-requires-2 c κs = search needs
 
--- src/region.rt:57:9
 returns-2 : tie.Need-returns-2
 returns-2 c = search (stops, goes-on, ends) depth 12
 
--- src/region.rt:59:33
 cast-is-within : tie.Need-cast-is-within
 cast-is-within c = search needs
 
--- src/region.rt:59:9
 is-within-requires-3 : tie.Need-is-within-requires-3
 is-within-requires-3 c κs = search needs
 
--- src/region.rt:60:9
 returns-3 : tie.Need-returns-3
 returns-3 c = search (stops, goes-on, ends) depth 12
 
--- src/region.rt:62:34
 cast-is-within-2 : tie.Need-cast-is-within-2
 cast-is-within-2 c = search needs
 
--- src/region.rt:62:9
 is-within-requires-4 : tie.Need-is-within-requires-4
 is-within-requires-4 c κs = search needs
 
--- src/region.rt:63:9
 returns-4 : tie.Need-returns-4
 returns-4 c = search (stops, goes-on, ends) depth 12
 
--- src/region.rt:65:27
 cast-is-within-3 : tie.Need-cast-is-within-3
 cast-is-within-3 c = search needs
 
--- src/region.rt:65:5
 is-within-requires-5 : tie.Need-is-within-requires-5
 is-within-requires-5 c κs = search needs
 
--- src/region.rt:50:1
 returns-5 : tie.Need-returns-5
 returns-5 c = search (stops, goes-on, ends) depth 12
 

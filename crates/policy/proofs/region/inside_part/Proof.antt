@@ -1,3 +1,5 @@
+-- Range by range.
+-- Assumes nothing.
 use Rattle.policy.proofs.Branches.{paired}
 use mathlib.Core.Path.{refl}
 use borrow.Author.Needs.{needs}
@@ -7,27 +9,21 @@ use Rattle.policy.proofs.region.inside_part.Reads as reads
 use Rattle.policy.proofs.region.inside_part.Lts as lts
 use Rattle.policy.proofs.region.common_part.Reads as common-part-reads
 
--- src/region.rt:65:16
 common-part-requires : tie.Need-common-part-requires
 common-part-requires c κs = search needs
 
--- src/region.rt:66:17
 common-part-requires-2 : tie.Need-common-part-requires-2
 common-part-requires-2 c κs = search needs
 
--- src/region.rt:67:21
 common-part-requires-3 : tie.Need-common-part-requires-3
 common-part-requires-3 c κs = search needs
 
--- src/region.rt:68:22
 common-part-requires-4 : tie.Need-common-part-requires-4
 common-part-requires-4 c κs = search needs
 
--- src/region.rt:69:19
 common-part-requires-5 : tie.Need-common-part-requires-5
 common-part-requires-5 c κs = search needs
 
--- src/region.rt:61:1
 returns : tie.Need-returns
 returns c = paired (search needs) (paired (search needs) (paired (search needs) (paired (search needs) (paired (search needs) refl))))
 

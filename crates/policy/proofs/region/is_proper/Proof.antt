@@ -1,26 +1,23 @@
+-- Each test takes one range off the row.
+-- Assumes nothing.
 use Rattle.policy.proofs.Branches.{stops-lt, goes-on-le, ends}
 use Rattle.policy.proofs.region.is_proper.Statement.{statement}
 use Rattle.policy.proofs.region.is_proper.Tie as tie
 use Rattle.policy.proofs.region.is_proper.Reads as reads
 use Rattle.policy.proofs.region.is_proper.Lts as lts
 
--- src/region.rt:24:9
 returns : tie.Need-returns
 returns c = search (stops-lt, goes-on-le, ends) depth 12
 
--- src/region.rt:27:9
 returns-2 : tie.Need-returns-2
 returns-2 c = search (stops-lt, goes-on-le, ends) depth 12
 
--- src/region.rt:30:9
 returns-3 : tie.Need-returns-3
 returns-3 c = search (stops-lt, goes-on-le, ends) depth 12
 
--- src/region.rt:33:9
 returns-4 : tie.Need-returns-4
 returns-4 c = search (stops-lt, goes-on-le, ends) depth 12
 
--- src/region.rt:20:1
 returns-5 : tie.Need-returns-5
 returns-5 c = search (stops-lt, goes-on-le, ends) depth 12
 

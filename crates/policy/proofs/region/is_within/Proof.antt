@@ -1,14 +1,14 @@
+-- A number below the low is outside; else the high decides.
+-- Assumes nothing.
 use Rattle.policy.proofs.Branches.{stops-lt, goes-on-le}
 use Rattle.policy.proofs.region.is_within.Statement.{statement}
 use Rattle.policy.proofs.region.is_within.Tie as tie
 use Rattle.policy.proofs.region.is_within.Reads as reads
 use Rattle.policy.proofs.region.is_within.Lts as lts
 
--- src/region.rt:44:9
 returns : tie.Need-returns
 returns c = search stops-lt
 
--- src/region.rt:40:1
 returns-2 : tie.Need-returns-2
 returns-2 c = search goes-on-le
 

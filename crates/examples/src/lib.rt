@@ -1,0 +1,1 @@
+// The worked examples of 01 that are theorems; they stand in specs/Table.antt.
