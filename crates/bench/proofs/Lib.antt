@@ -4,3 +4,4 @@ pub mod Demand3
 pub mod Fitting
 pub mod Slotting
 pub mod Calling
+pub mod EveryList

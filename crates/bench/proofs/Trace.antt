@@ -13,6 +13,7 @@ use Rattle.policy.specs.Header.{headers}
 use Rattle.policy.specs.Policy.{Covering}
 use Rattle.policy.specs.Refusals.{isAccepted}
 use Rattle.wire.specs.Format.{filedLimit, countIn, listIn}
+use Rattle.wire.proofs.Records.{Bytes}
 use Rattle.reconcile.specs.Crossproduct.{In}
 use Rattle.bench.specs.declared.slots.Slot.{Slot}
 use Rattle.bench.specs.declared.calls.Bench.{Bench}
@@ -83,6 +84,19 @@ EachSlot P [] = Unit {0}
 EachSlot P (none ∷ k) = EachSlot P k
 EachSlot P (some p ∷ k) = P p × EachSlot P k
 
+-- what holds of every filing's bytes
+abbrev pub FilesHave : (List ℕ → Type 0) → List Call → Type 0
+FilesHave Q [] = Unit {0}
+FilesHave Q (filing p s ∷ cs) = Q s × FilesHave Q cs
+FilesHave Q (withdrawal p ∷ cs) = FilesHave Q cs
+FilesHave Q (merging buffer ∷ cs) = FilesHave Q cs
+
+anything : (cs : List Call) → FilesHave (λ s. Unit {0}) cs
+anything [] = tt
+anything (filing p s ∷ cs) = (tt, anything cs)
+anything (withdrawal p ∷ cs) = anything cs
+anything (merging buffer ∷ cs) = anything cs
+
 module _ (P : List Entry → Type 0) where
   put : (k : Book) (i : ℕ) (p : List Entry) → P p → EachSlot P k → EachSlot P (set k i (some p))
   put [] i p a e = tt
@@ -104,28 +118,38 @@ module _ (P : List Entry → Type 0) where
   in-force (some p ∷ k) e q (inl i) = subst P (sym i) (e .0)
   in-force (some p ∷ k) e q (inr i) = in-force k (e .1) q i
 
-  module _ (filed : (p : ℕ) (s : List ℕ) → Files p s → P (listIn s)) where
-    step-keeps : (k : Book) (c : Call) → EachSlot P k → EachSlot P (bookStep k c)
-    step-keeps k (filing p s) e = go (isAccepted (filingOf p s)) refl
+  module _ (Q : List ℕ → Type 0) (filed : (p : ℕ) (s : List ℕ) → Q s → Files p s → P (listIn s)) where
+    step-keeps : (k : Book) (c : Call) → FilesHave Q (c ∷ []) → EachSlot P k → EachSlot P (bookStep k c)
+    step-keeps k (filing p s) b e = go (isAccepted (filingOf p s)) refl
       where
         go : (t : Bool) → isAccepted (filingOf p s) ≡ t → EachSlot P (cond t (set k (p - 1) (some (listIn s))) k)
-        go true a = put k (p - 1) (listIn s) (filed p s (filing-tells p s a)) e
+        go true a = put k (p - 1) (listIn s) (filed p s (b .0) (filing-tells p s a)) e
         go false a = e
-    step-keeps k (withdrawal p) e = go (isAccepted (withdrawalOf k p))
+    step-keeps k (withdrawal p) b e = go (isAccepted (withdrawalOf k p))
       where
         go : (t : Bool) → EachSlot P (cond t (set k (p - 1) none) k)
         go true = emptied k (p - 1) e
         go false = e
-    step-keeps k (merging buffer) e = e
+    step-keeps k (merging buffer) b e = e
 
-    from-keeps : (k : Book) (cs : List Call) → EachSlot P k → EachSlot P (bookFrom k cs)
-    from-keeps k [] e = e
-    from-keeps k (c ∷ cs) e = from-keeps (bookStep k c) cs (step-keeps k c e)
+    from-keeps : (k : Book) (cs : List Call) → FilesHave Q cs → EachSlot P k → EachSlot P (bookFrom k cs)
+    from-keeps k [] b e = e
+    from-keeps k (filing p s ∷ cs) b e = from-keeps (bookStep k (filing p s)) cs (b .1) (step-keeps k (filing p s) (b .0, tt) e)
+    from-keeps k (withdrawal p ∷ cs) b e = from-keeps (bookStep k (withdrawal p)) cs b (step-keeps k (withdrawal p) tt e)
+    from-keeps k (merging buffer ∷ cs) b e = from-keeps k cs b e
 
     -- what every accepted filing's list has, every list in force has after any list of calls
-    pub all-in-force : (cs : List Call) (q : List Entry) → In q (inForce (bookAfter cs)) → P q
+    all-in-force : (cs : List Call) → FilesHave Q cs → (q : List Entry) → In q (inForce (bookAfter cs)) → P q
     unfolding bookAfter
-    all-in-force cs = in-force (bookFrom emptyBook cs) (from-keeps emptyBook cs tt)
+    all-in-force cs b = in-force (bookFrom emptyBook cs) (from-keeps emptyBook cs b tt)
+
+-- filings are of bytes
+abbrev pub AllBytes : List Call → Type 0
+AllBytes cs = FilesHave Bytes cs
+
+pub all-in-force-of : (P : List Entry → Type 0) → ((p : ℕ) (s : List ℕ) → Bytes s → Files p s → P (listIn s))
+    → (cs : List Call) → AllBytes cs → (q : List Entry) → In q (inForce (bookAfter cs)) → P q
+all-in-force-of P f cs b = all-in-force P Bytes f cs b
 
 pub all-covering : (cs : List Call) → AllCovering (inForce (bookAfter cs))
-all-covering cs = all-in-force (Covering headers) (λ p s f. f .file .covering) cs
+all-covering cs = all-in-force (Covering headers) (λ s. Unit {0}) (λ p s b f. f .file .covering) cs (anything cs)
