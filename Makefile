@@ -1,0 +1,56 @@
+# Needs the Rattle kit (rt), a C compiler and Python 3; `make test` also a C++ compiler and Cargo.
+VERSION = 0.1.0
+PREFIX = /usr/local
+DESTDIR =
+
+ARCHIVE = target/staticlib/libgateway.a
+EXAMPLE = examples/clinic-maker-technician-firm.hex
+CARGO = cargo build --release --offline --locked --quiet --manifest-path outside/Cargo.toml
+
+.PHONY: run lookups test install bench clean archive
+
+# The program merges the shipped example; until the program is there, packets are looked up in one list of the example.
+ifneq ($(wildcard crates/merger/src),)
+run:
+	rt check merger
+	examples/to-bytes $(EXAMPLE) > target/example.bytes
+	target/bin/merger < target/example.bytes
+
+.PHONY: fuzz
+fuzz:
+	rt check merger
+	$(CARGO) --bin fuzz
+	outside/target/release/fuzz target/bin/merger
+else
+run: lookups
+endif
+
+# A C program with the library, answering lookups.
+lookups: archive
+	$(CC) -std=c99 -O2 -Wall -Wextra -I include examples/daemon.c $(ARCHIVE) -o target/daemon
+	examples/lookups target/daemon
+
+test:
+	.ci/run
+
+archive:
+	rt staticlib gateway
+
+install: archive
+	install -d $(DESTDIR)$(PREFIX)/lib/pkgconfig $(DESTDIR)$(PREFIX)/include
+	install -m 644 $(ARCHIVE) $(DESTDIR)$(PREFIX)/lib/libgateway.a
+	install -m 644 include/policy.h $(DESTDIR)$(PREFIX)/include/policy.h
+	printf '%s\n' 'prefix=$(PREFIX)' 'libdir=$${prefix}/lib' 'includedir=$${prefix}/include' '' \
+	    'Name: dunnarek-policy' 'Description: Lookup in and comparison of IPsec policy lists' 'Version: $(VERSION)' \
+	    'Libs: -L$${libdir} -lgateway' 'Cflags: -I$${includedir}' \
+	    > $(DESTDIR)$(PREFIX)/lib/pkgconfig/dunnarek-policy.pc
+
+# Lookup and comparison beside Rust versions of the same, as a Markdown page; no part of the gate.
+# Cargo does not notice a new archive, so it starts from nothing.
+bench: archive
+	rm -rf outside/target
+	$(CARGO) --features gateway --bin bench
+	outside/target/release/bench
+
+clean:
+	rm -rf target outside/target

@@ -1,0 +1,175 @@
+//! The daemon's calls and the program's merging in Rust, by the product's algorithm, for measuring.
+
+use crate::entry::{file, header_bytes, Box5, Entry, Header, List};
+use crate::merge::{merge, Form, Merged};
+use crate::model::Want;
+use crate::search::{
+    caught_by, decode, differing, gap, is_proper, lookup_packed, selector_of, unrefined,
+};
+use crate::search::{Decoded, Lists, Packed};
+
+/// The records of a file that passes checks 1 to 4, else the refusal's number.
+pub fn records(file: &[u8], limit: usize) -> Result<&[u8], u32> {
+    if file.len() < 5 || file.len() != u16::from_be_bytes([file[0], file[1]]) as usize + 2 {
+        return Err(1);
+    }
+    if file[2] != 1 {
+        return Err(2);
+    }
+    let n = u16::from_be_bytes([file[3], file[4]]) as usize;
+    if n < 1 || n > limit || file.len() - 5 != 28 * n {
+        return Err(3);
+    }
+    let records = &file[5..];
+    if records.chunks_exact(28).any(|r| !is_proper(&selector_of(r))) {
+        return Err(4);
+    }
+    Ok(records)
+}
+
+pub fn lookup(file: &[u8], h: &Header) -> u32 {
+    match records(file, 256) {
+        Ok(records) => lookup_packed(records, h).unwrap_or(256) as u32,
+        Err(refusal) => 256 + refusal,
+    }
+}
+
+fn covering(file: &[u8]) -> Result<&[u8], u32> {
+    let records = records(file, 256)?;
+    match gap(&Packed { lists: [records, &[]] }, &mut 0) {
+        Some(_) => Err(5),
+        None => Ok(records),
+    }
+}
+
+fn answer(lists: &impl Lists, header: &mut [u8], boxes: &mut u64) -> u32 {
+    match unrefined(lists, boxes) {
+        None => 0,
+        Some(h) => {
+            if header.len() >= 13 {
+                header[..13].copy_from_slice(&header_bytes(&h));
+            }
+            1
+        }
+    }
+}
+
+/// Comparison over the files' bytes.
+pub fn compare(first: &[u8], second: &[u8], header: &mut [u8]) -> u32 {
+    match (covering(first), covering(second)) {
+        (Err(refusal), _) => 256 + refusal,
+        (_, Err(refusal)) => 512 + refusal,
+        (Ok(first), Ok(second)) => answer(&Packed { lists: [first, second] }, header, &mut 0),
+    }
+}
+
+/// Comparison over decoded entries, decoding counted.
+pub fn compare_decoded(first: &[u8], second: &[u8], header: &mut [u8]) -> u32 {
+    let covering = |file| {
+        let list = decode(records(file, 256)?);
+        match gap(&Decoded { lists: [&list, &[]] }, &mut 0) {
+            Some(_) => Err(5),
+            None => Ok(list),
+        }
+    };
+    match (covering(first), covering(second)) {
+        (Err(refusal), _) => 256 + refusal,
+        (_, Err(refusal)) => 512 + refusal,
+        (Ok(first), Ok(second)) => answer(&Decoded { lists: [&first, &second] }, header, &mut 0),
+    }
+}
+
+/// An entry with the fields' own widths, as a gateway decodes it once.
+#[derive(Clone, Copy)]
+pub struct Unpacked {
+    addresses: [(u32, u32); 2],
+    ports: [(u16, u16); 2],
+    protocols: (u8, u8),
+}
+
+pub fn unpack(list: &[Entry]) -> Vec<Unpacked> {
+    list.iter()
+        .map(|e| {
+            let range = |f: usize| (e.selector.low[f], e.selector.high[f]);
+            let short = |f: usize| (range(f).0 as u16, range(f).1 as u16);
+            Unpacked {
+                addresses: [range(0), range(1)],
+                ports: [short(2), short(3)],
+                protocols: (range(4).0 as u8, range(4).1 as u8),
+            }
+        })
+        .collect()
+}
+
+/// Lookup in a table of unpacked entries.
+pub fn lookup_unpacked(table: &[Unpacked], h: &Header) -> u32 {
+    let within = |r: (u32, u32), x: u32| r.0 <= x && x <= r.1;
+    let short = |r: (u16, u16), x: u32| r.0 as u32 <= x && x <= r.1 as u32;
+    let matches = |e: &Unpacked| {
+        within(e.addresses[0], h[0])
+            && within(e.addresses[1], h[1])
+            && short(e.ports[0], h[2])
+            && short(e.ports[1], h[3])
+            && within((e.protocols.0 as u32, e.protocols.1 as u32), h[4])
+    };
+    table.iter().position(matches).unwrap_or(256) as u32
+}
+
+/// Decodes a good file once and looks up each header of 13 bytes: the sum of the answers.
+pub fn lookups_in_table(file: &[u8], headers: &[u8]) -> u32 {
+    let table = unpack(&decode(&file[5..]));
+    let number = |bytes: &[u8]| bytes.iter().fold(0, |n, b| n * 256 + *b as u32);
+    let header = |h: &[u8]| [&h[0..4], &h[4..8], &h[8..10], &h[10..12], &h[12..13]].map(number);
+    headers.chunks_exact(13).map(|h| lookup_unpacked(&table, &header(h))).sum()
+}
+
+/// The lists that an input of the program files, the last filing of each party counting.
+pub fn filed(input: &[u8]) -> Vec<List> {
+    let mut slots: [Option<List>; 8] = Default::default();
+    let mut at = 0;
+    while at < input.len() {
+        let rest = &input[at + 1..];
+        let length = match rest {
+            [a, b, ..] => (u16::from_be_bytes([*a, *b]) as usize + 2).min(rest.len()),
+            _ => rest.len(),
+        };
+        let party = input[at];
+        if let (1..=8, Ok(records)) = (party, records(&rest[..length], 32)) {
+            if gap(&Packed { lists: [records, &[]] }, &mut 0).is_none() {
+                slots[party as usize - 1] = Some(decode(records));
+            }
+        }
+        at += 1 + length;
+    }
+    slots.into_iter().flatten().collect()
+}
+
+/// The least header of a box that a list treats in a wanted way.
+pub fn search(lists: &impl Lists, within: &Box5, want: Want, boxes: &mut u64) -> Option<Header> {
+    match want {
+        Want::Uncaught => lists.least_open((0, 0..lists.count(0)), (0, 0..0), within, None, boxes),
+        Want::CaughtBy(i) => caught_by(lists, i, within, None, boxes),
+        Want::Differing(set) => differing(lists, within, set, boxes),
+    }
+}
+
+/// Files an input of the program and merges into a buffer: the entry count, or 256 plus the
+/// refusal's number.
+pub fn merge_input(input: &[u8], buffer: &mut [u8], form: Form, boxes: &mut u64) -> u32 {
+    let lists = filed(input);
+    if lists.is_empty() {
+        return 256 + 8;
+    }
+    match merge(&lists, form, boxes) {
+        Merged::Crowded => 256 + 9,
+        Merged::Conflict(_) => 256 + 10,
+        Merged::List(list) => {
+            let bytes = file(&list);
+            if buffer.len() < bytes.len() {
+                return 256 + 11;
+            }
+            buffer[..bytes.len()].copy_from_slice(&bytes);
+            list.len() as u32
+        }
+    }
+}

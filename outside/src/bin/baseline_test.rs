@@ -1,0 +1,93 @@
+//! The Rust versions that the measurements are held against answer as the model does.
+
+use outside::baseline;
+use outside::cells;
+use outside::daemon_cases::{comparisons, lookups};
+use outside::entry::{file, header_bytes, records, Entry, List, ALL};
+use outside::generate::{any_list, box_near, program_input, Sets};
+use outside::merge::{merge, Form, Merged};
+use outside::model::{self, Refusal, Want};
+use outside::random::Random;
+use outside::report::Cases;
+use outside::search::{decode, Decoded, Packed};
+
+fn searches(cases: &mut Cases, wanted: usize, random: &mut Random) {
+    for _ in 0..wanted {
+        let list = any_list(20, Sets::OneOf(6, 12), random);
+        let within = box_near(&list, random);
+        let want = match random.below(3) {
+            0 => Want::Uncaught,
+            1 => Want::CaughtBy(random.below(list.len() as u64 + 1) as usize),
+            _ => Want::Differing(*random.pick(&[6, 12, 1])),
+        };
+        let expected = model::search(&file(&list), &within, want).unwrap();
+        let bytes = records(&list);
+        let case = || format!("{want:?} in {within:?} of {list:?}");
+        let packed = Packed { lists: [&bytes, &[]] };
+        cases.same(baseline::search(&packed, &within, want, &mut 0), expected, case);
+        let decoded = Decoded { lists: [&list, &[]] };
+        cases.same(baseline::search(&decoded, &within, want, &mut 0), expected, case);
+        let uncaught = model::search(&file(&list), &ALL, Want::Uncaught).unwrap();
+        cases.same(cells::gap(&list, 1_000_000), Ok(uncaught), case);
+    }
+}
+
+fn mergings(cases: &mut Cases, wanted: usize, random: &mut Random) {
+    let mut answers = [0usize; 4];
+    for _ in 0..wanted {
+        let input = program_input(random);
+        let lists: Vec<List> = baseline::filed(&input);
+        let slices: Vec<&[Entry]> = lists.iter().map(|l| &l[..]).collect();
+        let expected = match model::merged_list(&slices) {
+            Ok(list) => Merged::List(list),
+            Err(Refusal::Conflict(header)) => Merged::Conflict(header),
+            Err(Refusal::Crowded) => Merged::Crowded,
+            Err(_) => {
+                answers[3] += 1;
+                continue;
+            }
+        };
+        answers[match &expected {
+            Merged::List(_) => 0,
+            Merged::Conflict(_) => 1,
+            Merged::Crowded => 2,
+        }] += 1;
+        for form in [Form::Packed, Form::Decoded] {
+            let case = || format!("{form:?} merging of {lists:?}");
+            cases.same(merge(&lists, form, &mut 0), expected.clone(), case);
+        }
+        let case = || format!("merging of {lists:?} by cells");
+        cases.same(cells::merge(&lists, 1_000_000), Ok(expected.clone()), case);
+    }
+    println!(
+        "  mergings: {} merged, {} conflicts, {} crowded, {} bare",
+        answers[0], answers[1], answers[2], answers[3]
+    );
+}
+
+/// Comparison by cells, answered as the daemon's call is.
+fn compare_by_cells(first: &[u8], second: &[u8], header: &mut [u8]) -> u32 {
+    let answer = baseline::compare(first, second, header);
+    if answer <= 1 {
+        let (p, q) = (decode(&first[5..]), decode(&second[5..]));
+        let found = cells::unrefined(&p, &q, 1_000_000).expect("within the limit");
+        assert_eq!(found.is_some(), answer == 1);
+        if let (Some(h), true) = (found, header.len() >= 13) {
+            header[..13].copy_from_slice(&header_bytes(&h));
+        }
+    }
+    answer
+}
+
+fn main() {
+    let mut cases = Cases::new("baseline_test", 600);
+    let wanted = Cases::wanted(20_000);
+    let mut random = Random::new(30);
+    lookups(&mut cases, wanted / 5, &mut random, &baseline::lookup);
+    comparisons(&mut cases, wanted / 4, &mut random, &baseline::compare);
+    comparisons(&mut cases, wanted / 4, &mut random, &baseline::compare_decoded);
+    comparisons(&mut cases, wanted / 10, &mut random, &compare_by_cells);
+    searches(&mut cases, wanted / 8, &mut random);
+    mergings(&mut cases, wanted / 20, &mut random);
+    cases.done("the Rust versions answer as the model does");
+}

@@ -1,0 +1,93 @@
+//! The daemon's two calls on generated files, valid and damaged, short and long, against the model.
+
+use crate::entry::{file, Header, List};
+use crate::generate::{
+    any_list, damaged, header_near, realistic_list, related_list, shaped_list, Sets,
+};
+use crate::model;
+use crate::random::Random;
+use crate::report::{hexadecimal, Cases};
+
+const CANARY: u8 = 0xc5;
+const CANARIES: usize = 64;
+
+/// Mostly short lists, some long ones, a few of the greatest length.
+fn some_list(random: &mut Random) -> List {
+    match random.below(24) {
+        0 => realistic_list(256, Sets::Any, random),
+        1 => realistic_list(random.between(33, 256) as usize, Sets::Any, random),
+        2 => shaped_list(random.between(10, 24) as usize, Sets::Any, random),
+        3..=6 => any_list(24, Sets::Any, random),
+        _ => any_list(10, Sets::Any, random),
+    }
+}
+
+fn some_file(list: &List, random: &mut Random) -> Vec<u8> {
+    match random.below(8) {
+        0 => damaged(list, random),
+        _ => file(list),
+    }
+}
+
+/// Lookups against the model's.
+pub fn lookups(
+    cases: &mut Cases,
+    wanted: usize,
+    random: &mut Random,
+    lookup: &dyn Fn(&[u8], &Header) -> u32,
+) {
+    let mut answers = [0usize; 3];
+    let end = cases.count + wanted;
+    while cases.count < end {
+        let list = some_list(random);
+        let bytes = some_file(&list, random).into_boxed_slice();
+        for _ in 0..4 {
+            let header = header_near(&list, random);
+            let expected = model::lookup_number(&bytes, &header);
+            answers[(expected.clamp(255, 257) - 255) as usize] += 1;
+            let case = || format!("lookup of {header:?} in {}", hexadecimal(&bytes));
+            cases.same(lookup(&bytes, &header), expected, case);
+        }
+    }
+    println!("  lookups: {} caught, {} uncaught, {} refused", answers[0], answers[1], answers[2]);
+}
+
+/// Comparisons against the model's, with canary bytes around the lent buffer.
+pub fn comparisons(
+    cases: &mut Cases,
+    wanted: usize,
+    random: &mut Random,
+    compare: &dyn Fn(&[u8], &[u8], &mut [u8]) -> u32,
+) {
+    let mut answers = [0usize; 3];
+    let end = cases.count + wanted;
+    while cases.count < end {
+        let list = some_list(random);
+        let other = match random.below(3) {
+            0 => some_list(random),
+            _ => related_list(&list, random),
+        };
+        let first = some_file(&list, random).into_boxed_slice();
+        let second = some_file(&other, random).into_boxed_slice();
+
+        let length = *random.pick(&[0, 1, 12, 13, 13, 14, 26, 64]);
+        let mut lent = vec![CANARY; CANARIES + length + CANARIES];
+        let middle = CANARIES..CANARIES + length;
+        lent[middle.clone()].iter_mut().for_each(|b| *b = random.next() as u8);
+        let mut expected_bytes = lent.clone();
+        let expected = model::compare_number(&first, &second, &mut expected_bytes[middle.clone()]);
+        answers[expected.min(2) as usize] += 1;
+
+        let (first_copy, second_copy) = (first.clone(), second.clone());
+        let answer = compare(&first, &second, &mut lent[middle]);
+        let case =
+            || format!("comparison of {} with {}", hexadecimal(&first), hexadecimal(&second));
+        cases.same(answer, expected, case);
+        cases.same(
+            (lent, first_copy, second_copy),
+            (expected_bytes, first.clone(), second.clone()),
+            case,
+        );
+    }
+    println!("  comparisons: {} refine, {} don't, {} refused", answers[0], answers[1], answers[2]);
+}

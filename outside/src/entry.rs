@@ -1,0 +1,71 @@
+//! Headers, boxes, entries and lists as plain numbers, and the file's bytes for them.
+//! The five fields stand in the order of headers: local address, remote address, local port,
+//! remote port, protocol.
+
+pub const FIELDS: usize = 5;
+
+/// The greatest number of each field.
+pub const TOP: [u32; FIELDS] = [u32::MAX, u32::MAX, 0xffff, 0xffff, 0xff];
+
+/// Bytes of each field's number in a record.
+pub const WIDTH: [usize; FIELDS] = [4, 4, 2, 2, 1];
+
+pub const RECORD: usize = 28;
+
+/// Compared as arrays are: the first number that differs decides.
+pub type Header = [u32; FIELDS];
+
+#[derive(Clone, Copy, PartialEq, Eq, Debug, Hash)]
+pub struct Box5 {
+    pub low: [u32; FIELDS],
+    pub high: [u32; FIELDS],
+}
+
+pub const ALL: Box5 = Box5 { low: [0; FIELDS], high: TOP };
+
+#[derive(Clone, Copy, PartialEq, Eq, Debug, Hash)]
+pub struct Entry {
+    pub selector: Box5,
+    pub actions: u16,
+}
+
+pub type List = Vec<Entry>;
+
+fn put(bytes: &mut Vec<u8>, value: u32, width: usize) {
+    bytes.extend_from_slice(&value.to_be_bytes()[4 - width..]);
+}
+
+/// The 28 bytes of an entry.
+pub fn record(e: &Entry) -> Vec<u8> {
+    let mut bytes = Vec::with_capacity(RECORD);
+    for f in 0..FIELDS {
+        put(&mut bytes, e.selector.low[f], WIDTH[f]);
+        put(&mut bytes, e.selector.high[f], WIDTH[f]);
+    }
+    put(&mut bytes, e.actions as u32, 2);
+    bytes
+}
+
+/// The records of a list, one after the other.
+pub fn records(list: &[Entry]) -> Vec<u8> {
+    list.iter().flat_map(record).collect()
+}
+
+/// The file of a list, for lists of at most 2340 entries.
+pub fn file(list: &[Entry]) -> Vec<u8> {
+    let mut bytes = Vec::with_capacity(5 + RECORD * list.len());
+    put(&mut bytes, (3 + RECORD * list.len()) as u32, 2);
+    bytes.push(1);
+    put(&mut bytes, list.len() as u32, 2);
+    bytes.extend(records(list));
+    bytes
+}
+
+/// A header's 13 bytes.
+pub fn header_bytes(h: &Header) -> Vec<u8> {
+    let mut bytes = Vec::with_capacity(13);
+    for f in 0..FIELDS {
+        put(&mut bytes, h[f], WIDTH[f]);
+    }
+    bytes
+}

@@ -1,0 +1,750 @@
+//! One generator of inputs, from fixed seeds, for the tests and the measurements alike.
+
+use crate::entry::{file, Box5, Entry, Header, List, ALL, FIELDS, RECORD, TOP, WIDTH};
+use crate::random::Random;
+
+// ---------------------------------------------------------------- families of lists
+
+/// The entries before the closing ones.
+#[derive(Clone, Copy, PartialEq, Eq, Debug)]
+pub enum Shape {
+    /// Prefixes, services and protocols as a gateway's list has them.
+    Realistic,
+    /// Thin slabs, in turn across the first so many fields, the other fields whole.
+    Slabs(usize),
+    /// Boxes inside each other, the innermost first.
+    Nested,
+    /// Boxes between two random corners.
+    Random,
+    /// Boxes with sides of every order of magnitude.
+    Scattered,
+    /// Boxes from the low corner, longer in one field and shorter in the next.
+    Staircase,
+    /// Boxes from the low corner to points of one plane across all five fields.
+    Plane,
+    /// The same from the high corner.
+    HighPlane,
+    /// Overlapping boxes along the diagonal.
+    Diagonal,
+    /// A partition of all headers by random cuts, each part grown by a tenth.
+    Partition,
+    /// The same, not grown.
+    Exact,
+}
+
+/// What closes a list.
+#[derive(Clone, Copy, PartialEq, Eq, Debug)]
+pub enum Closing {
+    /// Nothing: partitions cover by themselves.
+    Bare,
+    All,
+    /// The lower and the upper half of the local addresses.
+    Halves,
+    /// The 32 parts of all headers by the highest bit of each field.
+    Orthants,
+    /// Everything but the last header.
+    Hole,
+    /// A partition of all headers by random cuts, as many parts as the list has other entries.
+    /// No large record hides the rest, so this is the hardest closing.
+    Parts,
+}
+
+pub const SHAPES: [Shape; 15] = [
+    Shape::Realistic,
+    Shape::Slabs(1),
+    Shape::Slabs(2),
+    Shape::Slabs(3),
+    Shape::Slabs(4),
+    Shape::Slabs(5),
+    Shape::Nested,
+    Shape::Random,
+    Shape::Scattered,
+    Shape::Staircase,
+    Shape::Plane,
+    Shape::HighPlane,
+    Shape::Diagonal,
+    Shape::Partition,
+    Shape::Exact,
+];
+
+pub const CLOSINGS: [Closing; 6] = [
+    Closing::Bare,
+    Closing::All,
+    Closing::Halves,
+    Closing::Orthants,
+    Closing::Hole,
+    Closing::Parts,
+];
+
+/// `part` of `whole` parts of field `f`'s numbers, from below.
+fn share(f: usize, part: u64, whole: u64) -> u32 {
+    (TOP[f] as u128 * part as u128 / whole as u128) as u32
+}
+
+fn grown(b: Box5) -> Box5 {
+    let mut r = b;
+    for f in 0..FIELDS {
+        let by = (b.high[f] - b.low[f]) / 10;
+        r.low[f] = b.low[f].saturating_sub(by);
+        r.high[f] = b.high[f].saturating_add(by).min(TOP[f]);
+    }
+    r
+}
+
+/// All headers in `n` parts, by cutting a random part in a random field again and again.
+pub fn partition(n: usize, random: &mut Random) -> Vec<Box5> {
+    let mut parts = vec![ALL];
+    while parts.len() < n {
+        let i = random.below(parts.len() as u64) as usize;
+        let f = random.below(FIELDS as u64) as usize;
+        let (low, high) = (parts[i].low[f], parts[i].high[f]);
+        if low == high {
+            continue;
+        }
+        let at = random.between(low, high - 1);
+        let mut upper = parts[i];
+        parts[i].high[f] = at;
+        upper.low[f] = at + 1;
+        parts.push(upper);
+    }
+    random.shuffle(&mut parts);
+    parts
+}
+
+fn slab(i: usize, n: usize, d: usize, random: &mut Random) -> Box5 {
+    let f = i % d;
+    let thick = TOP[f] / (2 * n.div_ceil(d) as u32) + 1;
+    let low = random.between(0, TOP[f] - thick);
+    let mut b = ALL;
+    b.low[f] = low;
+    b.high[f] = low + random.between(thick / 2, thick);
+    b
+}
+
+fn scattered_range(f: usize, random: &mut Random) -> (u32, u32) {
+    let bits = random.below(8 * WIDTH[f] as u64 + 1);
+    let size = ((1u64 << bits) - 1) as u32;
+    let low = random.between(0, TOP[f] - size);
+    (low, low + size)
+}
+
+/// A point of the plane on which the five shares of the fields add up to two and a half wholes.
+fn plane_point(random: &mut Random) -> Header {
+    loop {
+        let mut parts = [0u64; FIELDS];
+        let mut sum = 0;
+        for part in parts.iter_mut().take(FIELDS - 1) {
+            *part = random.below(1001);
+            sum += *part;
+        }
+        if (1500..=2500).contains(&sum) {
+            parts[FIELDS - 1] = 2500 - sum;
+            let mut point = [0; FIELDS];
+            for f in 0..FIELDS {
+                point[f] = share(f, parts[f], 1000);
+            }
+            return point;
+        }
+    }
+}
+
+fn body_box(shape: Shape, i: usize, n: usize, random: &mut Random) -> Box5 {
+    let mut b = ALL;
+    let (here, whole) = (i as u64 + 1, n as u64 + 1);
+    match shape {
+        Shape::Slabs(d) => return slab(i, n, d, random),
+        Shape::Nested => {
+            for f in 0..FIELDS {
+                b.low[f] = share(f, whole - here, 2 * whole);
+                b.high[f] = TOP[f] - b.low[f];
+            }
+        }
+        Shape::Random => {
+            for f in 0..FIELDS {
+                let (x, y) = (random.between(0, TOP[f]), random.between(0, TOP[f]));
+                b.low[f] = x.min(y);
+                b.high[f] = x.max(y);
+            }
+        }
+        Shape::Scattered => {
+            for f in 0..FIELDS {
+                (b.low[f], b.high[f]) = scattered_range(f, random);
+            }
+        }
+        Shape::Staircase => {
+            b.high[0] = share(0, here, whole);
+            b.high[1] = share(1, whole - here, whole);
+        }
+        Shape::Plane => b.high = plane_point(random),
+        Shape::HighPlane => b.low = plane_point(random),
+        Shape::Diagonal => {
+            for f in 0..FIELDS {
+                b.low[f] = share(f, here - 1, whole);
+                b.high[f] = share(f, (here + 1).min(whole), whole);
+            }
+        }
+        Shape::Realistic => return realistic_box(random),
+        Shape::Partition | Shape::Exact => unreachable!("made whole"),
+    }
+    b
+}
+
+fn prefix(base: u32, length: u32) -> (u32, u32) {
+    let mask = if length == 0 { 0 } else { u32::MAX << (32 - length) };
+    (base & mask, (base & mask) | !mask)
+}
+
+const SITES: [u32; 6] =
+    [0x0a00_0000, 0x0a01_0000, 0x0a02_0300, 0xac10_0000, 0xc0a8_0000, 0xc0a8_0100];
+const PEERS: [u32; 6] =
+    [0xc633_6400, 0xcb00_7100, 0xc000_0200, 0x0a08_0000, 0x0a09_0000, 0xc612_0000];
+const SERVICES: [u32; 12] = [22, 25, 53, 80, 104, 123, 161, 443, 500, 2575, 4500, 8443];
+
+fn addresses(bases: &[u32], random: &mut Random) -> (u32, u32) {
+    match random.below(8) {
+        0 => (0, u32::MAX),
+        1 => {
+            // A range of hosts that is no prefix.
+            let low = random.pick(bases) + random.between(1, 100);
+            (low, low + random.between(1, 60))
+        }
+        2 | 3 => {
+            let host = random.pick(bases) + random.between(1, 254);
+            (host, host)
+        }
+        _ => {
+            let length = *random.pick(&[8u32, 12, 16, 20, 24, 24, 24, 28]);
+            let base = random.pick(bases) | (random.between(0, 255) << 8);
+            prefix(base, length)
+        }
+    }
+}
+
+fn ports(random: &mut Random) -> (u32, u32) {
+    match random.below(6) {
+        0 | 1 => {
+            let port = *random.pick(&SERVICES);
+            (port, port)
+        }
+        2 => *random.pick(&[(0, 1023), (1024, 65535), (49152, 65535), (8000, 8099)]),
+        _ => (0, 65535),
+    }
+}
+
+/// A selector as a gateway's administrator writes it.
+fn realistic_box(random: &mut Random) -> Box5 {
+    let (local, remote) = (addresses(&SITES, random), addresses(&PEERS, random));
+    let protocols =
+        *random.pick(&[(6, 6), (6, 6), (6, 6), (17, 17), (17, 17), (1, 1), (50, 50), (0, 255)]);
+    let (mut local_port, mut remote_port) = ((0, 65535), (0, 65535));
+    if protocols == (6, 6) || protocols == (17, 17) {
+        local_port = ports(random);
+        remote_port = ports(random);
+    }
+    let ranges = [local, remote, local_port, remote_port, protocols];
+    Box5 { low: ranges.map(|r| r.0), high: ranges.map(|r| r.1) }
+}
+
+fn body(shape: Shape, n: usize, random: &mut Random) -> Vec<Box5> {
+    match shape {
+        Shape::Partition => partition(n, random).into_iter().map(grown).collect(),
+        Shape::Exact => partition(n, random),
+        _ => (0..n).map(|i| body_box(shape, i, n, random)).collect(),
+    }
+}
+
+fn closing_boxes(closing: Closing, n: usize, random: &mut Random) -> Vec<Box5> {
+    match closing {
+        Closing::Bare => vec![],
+        Closing::All => vec![ALL],
+        Closing::Halves => {
+            let (mut lower, mut upper) = (ALL, ALL);
+            lower.high[0] = u32::MAX / 2;
+            upper.low[0] = u32::MAX / 2 + 1;
+            vec![lower, upper]
+        }
+        Closing::Orthants => (0..32u32)
+            .map(|bits| {
+                let mut b = ALL;
+                for f in 0..FIELDS {
+                    if bits >> f & 1 == 0 {
+                        b.high[f] = TOP[f] / 2;
+                    } else {
+                        b.low[f] = TOP[f] / 2 + 1;
+                    }
+                }
+                b
+            })
+            .collect(),
+        Closing::Hole => (0..FIELDS)
+            .map(|f| {
+                let mut b = ALL;
+                b.high[f] = TOP[f] - 1;
+                b
+            })
+            .collect(),
+        Closing::Parts => partition(n / 2, random),
+    }
+}
+
+/// A list of `n` entries of one shape, closed in one way. Where the closing boxes alone are more
+/// than half of `n`, the list is longer.
+pub fn family(shape: Shape, closing: Closing, n: usize, random: &mut Random) -> List {
+    let last = closing_boxes(closing, n, random);
+    let first = n.saturating_sub(last.len()).max(n / 2).max(1);
+    let mut boxes = body(shape, first, random);
+    boxes.extend(last);
+    with_sets(boxes, Sets::Any, random)
+}
+
+// ---------------------------------------------------------------- action sets
+
+/// Which action sets a list's entries get.
+#[derive(Clone, Copy, PartialEq, Eq, Debug)]
+pub enum Sets {
+    Any,
+    /// Every set has this action, so that lists agree.
+    With(u16),
+    /// One of two sets, so that entries can often be struck.
+    OneOf(u16, u16),
+}
+
+const USUAL_SETS: [u16; 12] = [1, 2, 3, 4, 5, 6, 7, 12, 0x14, 0x3c, 0xfffc, 0xffff];
+
+fn action_set(sets: Sets, random: &mut Random) -> u16 {
+    match sets {
+        Sets::Any if random.one_in(40) => 0,
+        Sets::Any => *random.pick(&USUAL_SETS),
+        Sets::With(action) => action | *random.pick(&USUAL_SETS),
+        Sets::OneOf(a, b) => {
+            if random.one_in(2) {
+                a
+            } else {
+                b
+            }
+        }
+    }
+}
+
+fn with_sets(boxes: Vec<Box5>, sets: Sets, random: &mut Random) -> List {
+    boxes
+        .into_iter()
+        .map(|selector| Entry { selector, actions: action_set(sets, random) })
+        .collect()
+}
+
+fn some_sets(random: &mut Random) -> Sets {
+    match random.below(4) {
+        0 => Sets::Any,
+        1 => Sets::OneOf(6, 12),
+        _ => Sets::With(4),
+    }
+}
+
+// ---------------------------------------------------------------- lists for the tests
+
+fn small_range(f: usize, random: &mut Random) -> (u32, u32) {
+    if random.one_in(2) {
+        return (0, TOP[f]);
+    }
+    let (x, y) = (random.between(0, 3), random.between(0, 3));
+    let (low, high) = (x.min(y), x.max(y));
+    (low, if high == 3 { TOP[f] } else { high })
+}
+
+/// A list over a space so small that it can be walked point by point (see points.rs), sometimes
+/// with a gap.
+pub fn small_list(n: usize, sets: Sets, random: &mut Random) -> List {
+    let mut boxes = vec![];
+    for _ in 0..n {
+        let mut b = ALL;
+        for f in 0..FIELDS {
+            (b.low[f], b.high[f]) = small_range(f, random);
+        }
+        boxes.push(b);
+    }
+    if !random.one_in(12) {
+        boxes[n - 1] = ALL;
+    }
+    with_sets(boxes, sets, random)
+}
+
+/// A list of `n` entries of a shape of the families, mostly covering.
+pub fn shaped_list(n: usize, sets: Sets, random: &mut Random) -> List {
+    let shape = *random.pick(&SHAPES);
+    let closing = match random.below(12) {
+        0 => Closing::Bare,
+        1 if n > 8 => Closing::Hole,
+        2 if n > 2 => Closing::Halves,
+        3 if n > 4 => Closing::Parts,
+        _ => Closing::All,
+    };
+    let last = closing_boxes(closing, n, random);
+    let mut boxes = match n.saturating_sub(last.len()) {
+        0 => vec![],
+        first => body(shape, first, random),
+    };
+    boxes.extend(last);
+    with_sets(boxes, sets, random)
+}
+
+/// A list as an administrator files it.
+pub fn realistic_list(n: usize, sets: Sets, random: &mut Random) -> List {
+    let mut boxes = body(Shape::Realistic, n, random);
+    boxes[n - 1] = ALL;
+    with_sets(boxes, sets, random)
+}
+
+/// A list of 1 to `most` entries of any kind.
+pub fn any_list(most: usize, sets: Sets, random: &mut Random) -> List {
+    let n = random.between(1, most as u32) as usize;
+    match random.below(5) {
+        0 | 1 => realistic_list(n, sets, random),
+        2 => shaped_list(n, sets, random),
+        3 => small_list(n, sets, random),
+        _ => small_list(n.min(6), sets, random),
+    }
+}
+
+/// A list that often refines the given one, or is refined by it.
+pub fn related_list(list: &[Entry], random: &mut Random) -> List {
+    let mut other = list.to_vec();
+    for _ in 0..random.below(4) {
+        let i = random.below(other.len() as u64) as usize;
+        let j = random.below(other.len() as u64) as usize;
+        match random.below(8) {
+            0 | 1 => other[i].actions |= 1 << random.below(16),
+            2 => other[i].actions &= !(1 << random.below(16)),
+            3 => other.swap(i, j),
+            4 if other.len() < 256 => {
+                let entry = other[j];
+                other.insert(i, entry);
+            }
+            5 if other.len() > 1 => {
+                other.remove(i);
+            }
+            6 => {
+                let f = random.below(FIELDS as u64) as usize;
+                other[i].selector.low[f] = 0;
+                other[i].selector.high[f] = TOP[f];
+            }
+            _ => {
+                let f = random.below(FIELDS as u64) as usize;
+                other[i].selector.high[f] = other[i].selector.low[f].max(other[j].selector.low[f]);
+            }
+        }
+    }
+    if random.one_in(4) {
+        let more = *random.pick(&[0, 1, 4, 0x0ff0]);
+        other.iter_mut().for_each(|e| e.actions |= more);
+    }
+    other
+}
+
+// ---------------------------------------------------------------- files and headers
+
+/// A file with a fault, so that each of the refusals of reading is met, now and then without one.
+pub fn damaged(list: &[Entry], random: &mut Random) -> Vec<u8> {
+    let mut list = list.to_vec();
+    let n = list.len();
+    match random.below(14) {
+        0 | 1 => {
+            // A crossed range, or two.
+            for _ in 0..random.between(1, 2) {
+                let i = random.below(n as u64) as usize;
+                let f = random.below(FIELDS as u64) as usize;
+                let s = &mut list[i].selector;
+                s.low[f] = random.between(1, TOP[f]);
+                s.high[f] = s.low[f] - random.between(1, s.low[f].min(3));
+            }
+            file(&list)
+        }
+        2 => {
+            // A gap at the end of one field.
+            let f = random.below(FIELDS as u64) as usize;
+            for e in &mut list {
+                e.selector.high[f] = e.selector.high[f].min(TOP[f] - 1);
+                e.selector.low[f] = e.selector.low[f].min(e.selector.high[f]);
+            }
+            file(&list)
+        }
+        3 => {
+            list.pop();
+            file(&list)
+        }
+        4 => {
+            // More entries than any file has.
+            while list.len() < 250 + random.below(12) as usize {
+                list.extend_from_within(..);
+            }
+            list.truncate(random.between(250, 260) as usize);
+            file(&list)
+        }
+        5 => {
+            let mut bytes = file(&list);
+            bytes[2] = *random.pick(&[0, 2, 3, 255]);
+            bytes
+        }
+        6 => {
+            let mut bytes = file(&list);
+            let count = *random.pick(&[0, 1, n as u32 + 1, n as u32 - 1, 33, 256, 257, 65535]);
+            bytes[3..5].copy_from_slice(&(count as u16).to_be_bytes());
+            bytes
+        }
+        7 => {
+            let mut bytes = file(&list);
+            bytes.truncate(random.below(bytes.len() as u64) as usize);
+            bytes
+        }
+        8 => {
+            let mut bytes = file(&list);
+            bytes.truncate(random.below(7) as usize);
+            bytes
+        }
+        9 => {
+            let mut bytes = file(&list);
+            let more = random.between(1, 30);
+            bytes.extend((0..more).map(|_| random.next() as u8));
+            bytes
+        }
+        10 => {
+            // The length agrees, the count does not.
+            let mut bytes = file(&list);
+            let more = random.between(1, 28) as usize;
+            bytes.extend((0..more).map(|_| random.next() as u8));
+            let length = bytes.len() - 2;
+            bytes[0..2].copy_from_slice(&(length as u16).to_be_bytes());
+            bytes
+        }
+        11 => {
+            let mut bytes = file(&list);
+            let i = random.below(bytes.len().min(5) as u64) as usize;
+            bytes[i] ^= 1 << random.below(8);
+            bytes
+        }
+        12 => {
+            let mut bytes = file(&list);
+            let i = random.below(bytes.len() as u64) as usize;
+            bytes[i] = random.next() as u8;
+            bytes
+        }
+        _ => {
+            let length = random.below(80) as usize;
+            let mut bytes: Vec<u8> = (0..length).map(|_| random.next() as u8).collect();
+            if length >= 5 && random.one_in(2) {
+                bytes[0..2].copy_from_slice(&(length as u16 - 2).to_be_bytes());
+                bytes[2] = random.between(0, 1) as u8;
+                bytes[3..5].copy_from_slice(&[0, random.between(0, 2) as u8]);
+            }
+            bytes
+        }
+    }
+}
+
+/// A header at or beside the ends of a list's ranges.
+pub fn header_near(list: &[Entry], random: &mut Random) -> Header {
+    let mut header = [0; FIELDS];
+    for f in 0..FIELDS {
+        let mut near = 0;
+        if !list.is_empty() {
+            let s = &random.pick(list).selector;
+            near = *random.pick(&[s.low[f], s.high[f], s.low[f] / 2 + s.high[f] / 2]);
+        }
+        header[f] = match random.below(12) {
+            0 => 0,
+            1 => TOP[f],
+            2 => random.between(0, TOP[f]),
+            3 | 4 => near.saturating_sub(1),
+            5 | 6 => near.saturating_add(1).min(TOP[f]),
+            _ => near,
+        };
+    }
+    header
+}
+
+/// A box with its ends at or beside those of a list's ranges, sometimes crossed.
+pub fn box_near(list: &[Entry], random: &mut Random) -> Box5 {
+    let (x, y) = (header_near(list, random), header_near(list, random));
+    let mut b = Box5 { low: x, high: y };
+    if !random.one_in(20) {
+        for f in 0..FIELDS {
+            b.low[f] = x[f].min(y[f]);
+            b.high[f] = x[f].max(y[f]);
+        }
+    }
+    b
+}
+
+// ---------------------------------------------------------------- inputs of the program, calls
+
+/// Single ports then ALL, as in 01's example of 256 and 272 entries.
+pub fn single_ports(f: usize, n: usize) -> List {
+    let mut list: List = (0..n as u32)
+        .map(|i| {
+            let mut selector = ALL;
+            selector.low[f] = 100 + i;
+            selector.high[f] = 100 + i;
+            Entry { selector, actions: 0x8000 }
+        })
+        .collect();
+    list.push(Entry { selector: ALL, actions: 0x8001 });
+    list
+}
+
+/// Filings of two parties whose working list has 256 entries and `more`: 15 single local ports then
+/// ALL, against 15 single remote ports, `more` single local ports of others and ALL.
+pub fn filings_at_limit(more: u32) -> Vec<u8> {
+    let mut second = single_ports(3, 15);
+    for i in 0..more {
+        let mut entry = second[0];
+        entry.selector = ALL;
+        (entry.selector.low[2], entry.selector.high[2]) = (5000 + i, 5000 + i);
+        second.insert(0, entry);
+    }
+    let mut input = vec![];
+    filing(1, &file(&single_ports(2, 15)), &mut input);
+    filing(2, &file(&second), &mut input);
+    input
+}
+
+fn filing(party: u8, bytes: &[u8], input: &mut Vec<u8>) {
+    input.push(party);
+    input.extend_from_slice(bytes);
+}
+
+/// Filings of lists that share most entries, as parties have who speak of the same nets, so that even
+/// eight lists of 32 entries stay within the working list's limit and agree.
+pub fn related_filings(parties: u8, n: usize, own: usize, random: &mut Random) -> Vec<u8> {
+    let mut shared = body(Shape::Realistic, n - own, random);
+    shared[n - own - 1] = ALL;
+    let sets: Vec<u16> = shared.iter().map(|_| *random.pick(&[4, 8, 16])).collect();
+    let mut input = vec![];
+    for party in 1..=parties {
+        let mut list: List = vec![];
+        for (selector, set) in shared.iter().zip(&sets) {
+            let more = *random.pick(&[0, 0, 1, 2, 32]);
+            list.push(Entry { selector: *selector, actions: set | more });
+        }
+        for _ in 0..own {
+            let selector = realistic_box(random);
+            let at = random.below(list.len() as u64) as usize;
+            list.insert(at, Entry { selector, actions: 0x1c });
+        }
+        filing(party, &file(&list), &mut input);
+    }
+    input
+}
+
+/// Filings of realistic lists of `least` to `most` entries.
+pub fn realistic_filings(parties: u8, least: u32, most: u32, random: &mut Random) -> Vec<u8> {
+    let mut input = vec![];
+    for party in 1..=parties {
+        let n = random.between(least, most) as usize;
+        filing(party, &file(&realistic_list(n, Sets::With(4), random)), &mut input);
+    }
+    input
+}
+
+fn some_party(parties: u32, random: &mut Random) -> u8 {
+    if random.one_in(25) {
+        *random.pick(&[0, 9, 10, 128, 255])
+    } else {
+        random.between(1, parties) as u8
+    }
+}
+
+/// An input of the program: some filings of lists of one kind, damaged and replaced ones among
+/// them.
+pub fn program_input(random: &mut Random) -> Vec<u8> {
+    let mut input = vec![];
+    let kind = random.below(16);
+    if kind == 0 {
+        // Around the limit of the working list.
+        if random.one_in(2) {
+            return filings_at_limit(random.between(0, 3));
+        }
+        let (first, second) = (random.between(14, 17), random.between(14, 17));
+        filing(1, &file(&single_ports(2, first as usize)), &mut input);
+        filing(2, &file(&single_ports(3, second as usize)), &mut input);
+        return input;
+    }
+    let parties = *random.pick(&[1, 2, 2, 3, 3, 4, 5, 6, 8]);
+    let most = match parties {
+        1 => 32,
+        2 => *random.pick(&[4, 8, 15, 32]),
+        3 | 4 => *random.pick(&[4, 8, 12]),
+        _ => *random.pick(&[2, 4, 6]),
+    };
+    let sets = some_sets(random);
+    let filings = parties + random.below(4) as u32;
+    for i in 0..filings {
+        let list = match kind {
+            1..=5 => realistic_list(random.between(1, most) as usize, sets, random),
+            6..=9 => small_list(random.between(1, most) as usize, sets, random),
+            10..=12 => shaped_list(random.between(1, most) as usize, sets, random),
+            _ => any_list(most as usize, sets, random),
+        };
+        let party = if i < parties && !random.one_in(20) {
+            i as u8 + 1
+        } else {
+            some_party(parties, random)
+        };
+        if random.one_in(9) {
+            filing(party, &damaged(&list, random), &mut input);
+        } else {
+            filing(party, &file(&list), &mut input);
+        }
+    }
+    if random.one_in(12) {
+        input.truncate(random.below(input.len() as u64 + 1) as usize);
+    }
+    if random.one_in(12) {
+        let more = random.between(1, 5);
+        input.extend((0..more).map(|_| random.next() as u8));
+    }
+    input
+}
+
+/// An input of exactly `length` bytes: filings until no more fit, then part of one.
+pub fn long_input(length: usize, random: &mut Random) -> Vec<u8> {
+    let mut input = vec![];
+    while input.len() < length {
+        let n = *random.pick(&[1, 5, 20, 32]);
+        let list = realistic_list(n, Sets::With(4), random);
+        filing(some_party(3, random), &file(&list), &mut input);
+    }
+    input.truncate(length);
+    input
+}
+
+/// A call on the bench, with its argument.
+#[derive(Clone, PartialEq, Eq, Debug)]
+pub enum Call {
+    File(u8, Vec<u8>),
+    Withdraw(u8),
+    /// Merging into a buffer of this length.
+    Merge(usize),
+}
+
+/// Filings, withdrawals and mergings, refused ones among them.
+pub fn calls(random: &mut Random) -> Vec<Call> {
+    let parties = random.between(1, 4);
+    let sets = some_sets(random);
+    (0..random.between(1, 14))
+        .map(|_| match random.below(8) {
+            0..=3 => {
+                let list = small_list(random.between(1, 5) as usize, sets, random);
+                let bytes = match random.below(6) {
+                    0 => damaged(&list, random),
+                    _ => file(&list),
+                };
+                Call::File(some_party(parties, random), bytes)
+            }
+            4 => Call::Withdraw(some_party(parties, random)),
+            _ => {
+                let entries = random.below(12) as usize;
+                Call::Merge(*random.pick(&[7173, 5 + RECORD * entries, 4 + RECORD * entries]))
+            }
+        })
+        .collect()
+}

@@ -1,0 +1,19 @@
+//! Tests and measurements of the policy list merger from outside.
+
+pub mod baseline;
+pub mod cells;
+pub mod daemon_cases;
+pub mod entry;
+#[cfg(feature = "gateway")]
+pub mod gateway;
+pub mod generate;
+pub mod measure;
+pub mod merge;
+pub mod model;
+pub mod page;
+pub mod points;
+pub mod process;
+pub mod product;
+pub mod random;
+pub mod report;
+pub mod search;

@@ -1,0 +1,525 @@
+//! Document 01 once more, written from its text for clarity, as the other side of the tests.
+//! It shares no algorithm with the product: what the product finds by cutting boxes is found here
+//! by walking the cells between all ends of ranges, field by field, in the order of headers.
+
+use crate::entry::{Box5, Entry, Header, List, ALL, FIELDS, TOP, WIDTH};
+use std::collections::{BTreeSet, HashSet};
+
+// ---------------------------------------------------------------- what is turned down
+
+#[derive(Clone, Copy, PartialEq, Eq, Debug)]
+pub enum Refusal {
+    Missized,
+    Version,
+    Count,
+    Crossed(usize),
+    Gap(Header),
+    Party,
+    Vacant,
+    Bare,
+    Crowded,
+    Conflict(Header),
+    Narrow(usize),
+}
+
+impl Refusal {
+    /// The number in 01's table.
+    pub fn number(&self) -> u32 {
+        match self {
+            Refusal::Missized => 1,
+            Refusal::Version => 2,
+            Refusal::Count => 3,
+            Refusal::Crossed(_) => 4,
+            Refusal::Gap(_) => 5,
+            Refusal::Party => 6,
+            Refusal::Vacant => 7,
+            Refusal::Bare => 8,
+            Refusal::Crowded => 9,
+            Refusal::Conflict(_) => 10,
+            Refusal::Narrow(_) => 11,
+        }
+    }
+}
+
+pub const FILED_LIMIT: usize = 32;
+pub const LIST_LIMIT: usize = 256;
+pub const LONGEST_FILE: usize = 5 + 28 * LIST_LIMIT;
+
+// ---------------------------------------------------------------- headers, entries, lists
+
+/// Whether a header is in a box; a crossed box holds none.
+pub fn holds(b: &Box5, h: &Header) -> bool {
+    (0..FIELDS).all(|f| b.low[f] <= h[f] && h[f] <= b.high[f])
+}
+
+pub fn is_crossed(b: &Box5) -> bool {
+    (0..FIELDS).any(|f| b.low[f] > b.high[f])
+}
+
+/// The number of the first entry that matches (Definition 3).
+pub fn catching(list: &[Entry], h: &Header) -> Option<usize> {
+    list.iter().position(|e| holds(&e.selector, h))
+}
+
+/// What a list allows a header, where it is caught (Definition 4).
+pub fn allowed(list: &[Entry], h: &Header) -> Option<u16> {
+    catching(list, h).map(|i| list[i].actions)
+}
+
+// ---------------------------------------------------------------- walking the cells
+
+/// Calls `visit` with headers of a box in rising order, and the numbers of the entries that catch
+/// them in each list, until it answers true. Headers that no list tells apart from an earlier
+/// header are left out. So every combination of catching entries that occurs in the box is
+/// visited, first at its least header.
+pub fn walk(
+    within: &Box5,
+    lists: &[&[Entry]],
+    visit: &mut dyn FnMut(&Header, &[Option<usize>]) -> bool,
+) {
+    if is_crossed(within) {
+        return;
+    }
+    let alive = lists.iter().map(|list| (0..list.len()).collect()).collect();
+    let mut seen = vec![HashSet::new(); FIELDS];
+    walk_field(within, lists, 0, alive, &mut [0; FIELDS], &mut seen, visit);
+}
+
+/// Entries of each list that match in all fields so far.
+type Alive = Vec<Vec<usize>>;
+
+fn walk_field(
+    within: &Box5,
+    lists: &[&[Entry]],
+    f: usize,
+    alive: Alive,
+    header: &mut Header,
+    seen: &mut Vec<HashSet<Alive>>,
+    visit: &mut dyn FnMut(&Header, &[Option<usize>]) -> bool,
+) -> bool {
+    if f == FIELDS {
+        let catching: Vec<Option<usize>> = alive.iter().map(|list| list.first().copied()).collect();
+        return visit(header, &catching);
+    }
+    let alive = without_hidden(within, lists, f, alive);
+    if !seen[f].insert(alive.clone()) {
+        return false;
+    }
+    for start in cell_starts(within, lists, f, &alive) {
+        header[f] = start;
+        let matching = lists
+            .iter()
+            .zip(&alive)
+            .map(|(list, numbers)| {
+                let matches = |i: &usize| {
+                    let s = &list[*i].selector;
+                    s.low[f] <= start && start <= s.high[f]
+                };
+                numbers.iter().copied().filter(matches).collect()
+            })
+            .collect();
+        if walk_field(within, lists, f + 1, matching, header, seen, visit) {
+            return true;
+        }
+    }
+    false
+}
+
+/// Drops the entries after one that matches everything that is still to be walked: they catch
+/// nothing of it.
+fn without_hidden(within: &Box5, lists: &[&[Entry]], f: usize, mut alive: Alive) -> Alive {
+    for (list, numbers) in lists.iter().zip(&mut alive) {
+        let whole = |i: &usize| {
+            let s = &list[*i].selector;
+            (f..FIELDS).all(|g| s.low[g] <= within.low[g] && within.high[g] <= s.high[g])
+        };
+        if let Some(at) = numbers.iter().position(whole) {
+            numbers.truncate(at + 1);
+        }
+    }
+    alive
+}
+
+/// The least numbers of the cells of field `f`: the ends of all ranges cut the box's range there.
+fn cell_starts(within: &Box5, lists: &[&[Entry]], f: usize, alive: &Alive) -> BTreeSet<u32> {
+    let mut starts = BTreeSet::from([within.low[f]]);
+    for (list, numbers) in lists.iter().zip(alive) {
+        for &i in numbers {
+            let s = &list[i].selector;
+            starts.insert(s.low[f]);
+            if s.high[f] < TOP[f] {
+                starts.insert(s.high[f] + 1);
+            }
+        }
+    }
+    starts.retain(|x| within.low[f] <= *x && *x <= within.high[f]);
+    starts
+}
+
+/// The least header of a box whose catching entries have a property.
+fn least(
+    within: &Box5,
+    lists: &[&[Entry]],
+    property: impl Fn(&[Option<usize>]) -> bool,
+) -> Option<Header> {
+    let mut found = None;
+    walk(within, lists, &mut |header, catching| {
+        if property(catching) {
+            found = Some(*header);
+        }
+        found.is_some()
+    });
+    found
+}
+
+// ---------------------------------------------------------------- the file
+
+fn number(bytes: &[u8]) -> u32 {
+    bytes.iter().fold(0, |n, b| n * 256 + *b as u32)
+}
+
+fn entry_at(bytes: &[u8]) -> Entry {
+    let mut rest = bytes;
+    let mut next = |width: usize| {
+        let (head, tail) = rest.split_at(width);
+        rest = tail;
+        number(head)
+    };
+    let mut selector = ALL;
+    for f in 0..FIELDS {
+        selector.low[f] = next(WIDTH[f]);
+        selector.high[f] = next(WIDTH[f]);
+    }
+    Entry { selector, actions: next(2) as u16 }
+}
+
+/// Reading a file: checks 1 to 4, and the list.
+pub fn read(file: &[u8], limit: usize) -> Result<List, Refusal> {
+    if file.len() < 5 || file.len() != number(&file[0..2]) as usize + 2 {
+        return Err(Refusal::Missized);
+    }
+    if file[2] != 1 {
+        return Err(Refusal::Version);
+    }
+    let n = number(&file[3..5]) as usize;
+    let rest = file.len() - 5;
+    if n < 1 || n > limit || rest / 28 != n || rest % 28 != 0 {
+        return Err(Refusal::Count);
+    }
+    let list: List = file[5..].chunks(28).map(entry_at).collect();
+    match list.iter().position(|e| is_crossed(&e.selector)) {
+        Some(i) => Err(Refusal::Crossed(i)),
+        None => Ok(list),
+    }
+}
+
+/// Check 5.
+pub fn gap(list: &[Entry]) -> Result<(), Refusal> {
+    match least(&ALL, &[list], |c| c[0].is_none()) {
+        Some(header) => Err(Refusal::Gap(header)),
+        None => Ok(()),
+    }
+}
+
+fn bytes_of(value: u32, width: usize) -> Vec<u8> {
+    (0..width).rev().map(|i| (value >> (8 * i)) as u8).collect()
+}
+
+fn record_of(e: &Entry) -> Vec<u8> {
+    let mut bytes = vec![];
+    for f in 0..FIELDS {
+        bytes.extend(bytes_of(e.selector.low[f], WIDTH[f]));
+        bytes.extend(bytes_of(e.selector.high[f], WIDTH[f]));
+    }
+    bytes.extend(bytes_of(e.actions as u32, 2));
+    bytes
+}
+
+pub fn header_of(h: &Header) -> Vec<u8> {
+    (0..FIELDS).flat_map(|f| bytes_of(h[f], WIDTH[f])).collect()
+}
+
+fn file_of(list: &[Entry]) -> Vec<u8> {
+    let mut bytes = bytes_of(3 + 28 * list.len() as u32, 2);
+    bytes.push(1);
+    bytes.extend(bytes_of(list.len() as u32, 2));
+    bytes.extend(list.iter().flat_map(record_of));
+    bytes
+}
+
+/// Writing a list into a lent buffer: the file's length.
+pub fn write(list: &[Entry], buffer: &mut [u8]) -> Result<usize, Refusal> {
+    if list.is_empty() || list.len() > LIST_LIMIT {
+        return Err(Refusal::Count);
+    }
+    if let Some(i) = list.iter().position(|e| is_crossed(&e.selector)) {
+        return Err(Refusal::Crossed(i));
+    }
+    let file = file_of(list);
+    if buffer.len() < file.len() {
+        return Err(Refusal::Narrow(file.len()));
+    }
+    buffer[..file.len()].copy_from_slice(&file);
+    Ok(file.len())
+}
+
+// ---------------------------------------------------------------- search, lookup, comparison
+
+#[derive(Clone, Copy, PartialEq, Eq, Debug)]
+pub enum Want {
+    Uncaught,
+    CaughtBy(usize),
+    Differing(u16),
+}
+
+/// The least header of a box that the file's list treats in a wanted way.
+pub fn search(file: &[u8], within: &Box5, want: Want) -> Result<Option<Header>, Refusal> {
+    let list = read(file, LIST_LIMIT)?;
+    Ok(least(within, &[&list], |c| match want {
+        Want::Uncaught => c[0].is_none(),
+        Want::CaughtBy(i) => c[0] == Some(i),
+        Want::Differing(set) => c[0].map(|i| list[i].actions) != Some(set),
+    }))
+}
+
+/// The number of the entry that catches the header.
+pub fn lookup(file: &[u8], h: &Header) -> Result<Option<usize>, Refusal> {
+    Ok(catching(&read(file, LIST_LIMIT)?, h))
+}
+
+/// The catching record as a part of the file: where it starts, and its length.
+pub fn lookup_part(file: &[u8], h: &Header) -> (usize, usize) {
+    match lookup(file, h) {
+        Ok(Some(i)) => (5 + 28 * i, 28),
+        _ => (0, 0),
+    }
+}
+
+/// The answer to the daemon's lookup.
+pub fn lookup_number(file: &[u8], h: &Header) -> u32 {
+    match lookup(file, h) {
+        Ok(Some(i)) => i as u32,
+        Ok(None) => 256,
+        Err(refusal) => 256 + refusal.number(),
+    }
+}
+
+/// Whether the first list refines the second, else the least header where it doesn't. A refusal
+/// comes with the file's number.
+pub fn compare(first: &[u8], second: &[u8]) -> Result<Option<Header>, (u32, Refusal)> {
+    let covering = |file: &[u8]| {
+        let list = read(file, LIST_LIMIT)?;
+        gap(&list)?;
+        Ok(list)
+    };
+    let p = covering(first).map_err(|r| (1, r))?;
+    let q = covering(second).map_err(|r| (2, r))?;
+    Ok(least(&ALL, &[&p, &q], |c| {
+        let (a, b) = (p[c[0].unwrap()].actions, q[c[1].unwrap()].actions);
+        a & !b != 0
+    }))
+}
+
+/// The answer to the daemon's comparison, and what the lent buffer holds after it.
+pub fn compare_number(first: &[u8], second: &[u8], buffer: &mut [u8]) -> u32 {
+    match compare(first, second) {
+        Ok(None) => 0,
+        Ok(Some(header)) => {
+            if buffer.len() >= 13 {
+                buffer[..13].copy_from_slice(&header_of(&header));
+            }
+            1
+        }
+        Err((file, refusal)) => 256 * file + refusal.number(),
+    }
+}
+
+// ---------------------------------------------------------------- merging
+
+fn common_part(a: &Box5, b: &Box5) -> Box5 {
+    let mut r = *a;
+    for f in 0..FIELDS {
+        r.low[f] = a.low[f].max(b.low[f]);
+        r.high[f] = a.high[f].min(b.high[f]);
+    }
+    r
+}
+
+/// The entries of a list that catch a header.
+fn catching_entries(list: &[Entry]) -> List {
+    let mut numbers = BTreeSet::new();
+    walk(&ALL, &[list], &mut |_, c| {
+        numbers.extend(c[0]);
+        false
+    });
+    numbers.into_iter().map(|i| list[i]).collect()
+}
+
+/// Rules 1 and 2 for one more list. A header matches the pair of two entries where it matches
+/// both; in lexicographic order the first such pair is that of the first matches. What catches no
+/// header is dropped, the pairs with an empty selector among it. None stands for more than 256.
+fn crossed_with(working: &[Entry], next: &[Entry]) -> Option<List> {
+    let mut pairs = BTreeSet::new();
+    walk(&ALL, &[working, next], &mut |_, c| {
+        if let (Some(i), Some(j)) = (c[0], c[1]) {
+            pairs.insert((i, j));
+        }
+        pairs.len() > LIST_LIMIT
+    });
+    if pairs.len() > LIST_LIMIT {
+        return None;
+    }
+    let pair = |(i, j): (usize, usize)| Entry {
+        selector: common_part(&working[i].selector, &next[j].selector),
+        actions: working[i].actions & next[j].actions,
+    };
+    Some(pairs.into_iter().map(pair).collect())
+}
+
+/// Rules 1 and 2: the working list after the last party.
+pub fn working_list(lists: &[&[Entry]]) -> Result<List, Refusal> {
+    let (first, others) = lists.split_first().ok_or(Refusal::Bare)?;
+    let mut working = catching_entries(first);
+    for next in others {
+        working = crossed_with(&working, next).ok_or(Refusal::Crowded)?;
+    }
+    Ok(working)
+}
+
+/// The least header without an action common to its first matches in all lists.
+pub fn least_conflict(lists: &[&[Entry]]) -> Option<Header> {
+    least(&ALL, lists, |c| {
+        let sets = c.iter().zip(lists).map(|(i, list)| i.map_or(0, |i| list[i].actions));
+        sets.fold(0xffff, |common, set| common & set) == 0
+    })
+}
+
+/// Rule 4 for one entry. Only headers that the entry matches can tell the difference.
+fn can_be_struck(list: &[Entry], k: usize) -> bool {
+    let mut without = list.to_vec();
+    without.remove(k);
+    let differing = least(&list[k].selector, &[list, &without], |c| {
+        c[0].map(|i| list[i].actions) != c[1].map(|i| without[i].actions)
+    });
+    differing.is_none()
+}
+
+/// Merging of covering lists: rules 1 to 4.
+pub fn merged_list(lists: &[&[Entry]]) -> Result<List, Refusal> {
+    let mut list = working_list(lists)?;
+    let conflict = least_conflict(lists);
+    // Rule 3 and demand 3 say the same in two ways.
+    assert_eq!(conflict.is_some(), list.iter().any(|e| e.actions == 0));
+    if let Some(header) = conflict {
+        return Err(Refusal::Conflict(header));
+    }
+    for k in (0..list.len()).rev() {
+        if can_be_struck(&list, k) {
+            list.remove(k);
+        }
+    }
+    Ok(list)
+}
+
+// ---------------------------------------------------------------- the bench
+
+/// A slot for each party.
+#[derive(Clone, Default, PartialEq, Eq, Debug)]
+pub struct Bench {
+    slots: [Option<List>; 8],
+}
+
+impl Bench {
+    pub fn file(&mut self, party: u8, file: &[u8]) -> Result<usize, Refusal> {
+        if !(1..=8).contains(&party) {
+            return Err(Refusal::Party);
+        }
+        let list = read(file, FILED_LIMIT)?;
+        gap(&list)?;
+        let n = list.len();
+        self.slots[party as usize - 1] = Some(list);
+        Ok(n)
+    }
+
+    pub fn withdraw(&mut self, party: u8) -> Result<(), Refusal> {
+        if !(1..=8).contains(&party) {
+            return Err(Refusal::Party);
+        }
+        match self.slots[party as usize - 1].take() {
+            Some(_) => Ok(()),
+            None => Err(Refusal::Vacant),
+        }
+    }
+
+    /// The merged list's entry count and its file's length.
+    pub fn merge(&self, buffer: &mut [u8]) -> Result<(usize, usize), Refusal> {
+        let lists: Vec<&[Entry]> = self.slots.iter().flatten().map(|list| &list[..]).collect();
+        let list = merged_list(&lists)?;
+        let file = file_of(&list);
+        if buffer.len() < file.len() {
+            return Err(Refusal::Narrow(file.len()));
+        }
+        buffer[..file.len()].copy_from_slice(&file);
+        Ok((list.len(), file.len()))
+    }
+}
+
+// ---------------------------------------------------------------- the program
+
+fn hexadecimal(bytes: &[u8]) -> String {
+    bytes.iter().map(|b| format!("{b:02x}")).collect()
+}
+
+fn refused_line(party: u8, refusal: &Refusal) -> String {
+    let number = refusal.number();
+    match refusal {
+        Refusal::Crossed(entry) => format!("refused {party} {number} {entry}\n"),
+        Refusal::Gap(header) | Refusal::Conflict(header) => {
+            format!("refused {party} {number} {}\n", hexadecimal(&header_of(header)))
+        }
+        _ => format!("refused {party} {number}\n"),
+    }
+}
+
+/// The program's records: a party byte, then L + 2 bytes, or what is left.
+pub fn framed(input: &[u8]) -> Vec<(u8, &[u8])> {
+    let mut records = vec![];
+    let mut rest = input;
+    while let Some((party, after)) = rest.split_first() {
+        let length = match after {
+            [a, b, ..] => (*a as usize * 256 + *b as usize + 2).min(after.len()),
+            _ => after.len(),
+        };
+        let (file, next) = after.split_at(length);
+        records.push((*party, file));
+        rest = next;
+    }
+    records
+}
+
+/// Standard output for a standard input.
+pub fn program(input: &[u8]) -> String {
+    if input.len() > 65_536 {
+        return "input too long\n".to_string();
+    }
+    let mut output = String::new();
+    let mut bench = Bench::default();
+    for (party, file) in framed(input) {
+        match bench.file(party, file) {
+            Ok(n) => output += &format!("filed {party} {n}\n"),
+            Err(refusal) => output += &refused_line(party, &refusal),
+        }
+    }
+    let mut buffer = vec![0; LONGEST_FILE];
+    match bench.merge(&mut buffer) {
+        Ok((n, length)) => {
+            output += &format!("merged {n}\n");
+            for record in buffer[5..length].chunks(28) {
+                output += &hexadecimal(record);
+                output += "\n";
+            }
+        }
+        Err(refusal) => output += &refused_line(0, &refusal),
+    }
+    output
+}
