@@ -1,0 +1,12 @@
+pub mod Buffer
+pub mod Digits
+pub mod Lines
+pub mod Framing
+pub mod Records
+pub mod Length
+pub mod Progress
+pub mod Outcome
+pub mod Whole
+pub mod Decimal
+pub mod Printing
+pub mod Examples

@@ -1,0 +1,127 @@
+-- What is printed of the merging, by 01's rules, and that it keeps to demand 3.
+-- Assumes nothing.
+use Prim.Native.Nat.{ℕ, zero, suc, _-_, _≤_}
+use native.Mathlib.Omega.{arith}
+use mathlib.Core.Path.{_≡_, refl, _∙_, ap}
+use mathlib.Core.Bool.{Bool, true, false, cond}
+use mathlib.Core.List.{List, [], _∷_, _++_}
+use mathlib.Core.Option.{none, some}
+use lib.ListN.{length, take, drop, set, length-replicate}
+use borrow.Author.Tests.{le-ltb}
+use Rattle.policy.specs.declared.entry.Entry.{Entry}
+use Rattle.policy.specs.declared.refusal.Refusal.the-variants.{Bare, Crowded, Conflict, Narrow}
+use Rattle.policy.specs.Header.{headers}
+use Rattle.policy.specs.Refusals.{Answer, refusal, accepted, isAccepted, refuse, firstOf}
+use Rattle.wire.specs.Format.{headSize, listLimit, fileSize, countIn, listIn, recordOf, recordsOf, fileOf}
+use Rattle.wire.specs.Answers.{ifAccepted}
+use Rattle.wire.specs.Writing.{placed}
+use Rattle.wire.proofs.Records.{Bytes, AllFit, entries-fit}
+use Rattle.reconcile.specs.Rules.{Merging, bare, overfull, conflict, merged, mergeOf}
+use Rattle.reconcile.specs.Ending.{mergingOf as mergingIn}
+use Rattle.reconcile.proofs.Merging.{merged-few}
+use Rattle.bench.specs.Book.{Book, emptyBook, inForce}
+use Rattle.bench.specs.Answers.{filingOf, mergingOf}
+use Rattle.bench.specs.Calls.{bookFrom, bookAfter}
+use Rattle.bench.specs.Demand3.{MergedList, Demand3}
+use Rattle.bench.proofs.Trace.{AllCovering, all-covering, EachSlot, in-force}
+use Rattle.bench.proofs.Fitting.{reads-back}
+use Rattle.bench.proofs.Demand3.{merged-list-is, demand-3}
+use Rattle.report.specs.Text.{ascii, decimal, hex}
+use Rattle.report.specs.Report.{inputLimit, fileRun, filingsIn, filingsOf, filingLines, refusedLine, recordLines, mergingLines, mergeBuffer, linesOf, reportOf}
+use Rattle.report.proofs.Length.{bytes-take, bytes-drop}
+
+-- ---- the lines of a list and of each outcome
+
+abbrev pub listLines : List Entry → List ℕ
+listLines [] = []
+listLines (e ∷ m) = hex (recordOf e) ++ ascii "\n" ++ listLines m
+
+abbrev pub outcomeLines : Merging → List ℕ
+outcomeLines bare = refusedLine 0 (refusal Bare)
+outcomeLines overfull = refusedLine 0 (refusal Crowded)
+outcomeLines (conflict h) = refusedLine 0 (refusal (Conflict h))
+outcomeLines (merged m) = ascii "merged " ++ decimal (length m) ++ ascii "\n" ++ listLines m
+
+-- the lines of a file's records are those of its list
+records-are : (m : List Entry) (rest : List ℕ) → recordLines (length m) (recordsOf m ++ rest) ≡ listLines m
+records-are [] rest = refl
+records-are (e ∷ m) rest = ap (λ (l : List ℕ). hex (recordOf e) ++ ascii "\n" ++ l) (records-are m rest)
+
+-- a merged list is never too long for the buffer
+module _ (buffer : List ℕ) (size : length buffer ≡ fileSize listLimit) where
+  merged-lines : (m : List Entry) → length m ≤ listLimit → mergingLines (mergingIn (merged m) buffer) ≡ outcomeLines (merged m)
+  merged-lines m few =
+      ap (λ (t : Bool). mergingLines (written t, ifAccepted (written t) (placed (fileOf m) buffer) buffer))
+      (le-ltb (length buffer) (fileSize (length m)) (fits (length m) (length buffer) few size))
+      ∙ ap (λ (l : List ℕ). ascii "merged " ++ decimal (length m) ++ ascii "\n" ++ l) (records-are m (drop (length (fileOf m)) buffer))
+    where
+      written : Bool → Answer
+      written t = firstOf (refuse t (Narrow (fileSize (length m))) ∷ []) (accepted (length m ∷ fileSize (length m) ∷ []))
+
+      fits : (n l : ℕ) → n ≤ listLimit → l ≡ fileSize listLimit → fileSize n ≤ l
+      fits n l h e = omega arith
+
+  outcome-lines : (r : Merging) → ((m : List Entry) → r ≡ merged m → length m ≤ listLimit) → mergingLines (mergingIn r buffer) ≡ outcomeLines r
+  outcome-lines bare few = refl
+  outcome-lines overfull few = refl
+  outcome-lines (conflict h) few = refl
+  outcome-lines (merged m) few = merged-lines m (few m refl)
+
+few-merged : (ps : List (List Entry)) (m : List Entry) → mergeOf headers ps ≡ merged m → length m ≤ listLimit
+few-merged [] m e = absurd (let z : _≡_ {A = ℕ} 0 1 = cc in omega arith)
+few-merged (p ∷ ps) m e = merged-few headers p ps m e
+
+-- ---- the report
+
+-- the lists in force after the filings of an input
+abbrev pub inForceAfter : List ℕ → List (List Entry)
+inForceAfter input = inForce (bookAfter (filingsOf input))
+
+-- a line for each filing, then the lines of the merging
+pub printed : (input : List ℕ) → length input ≤ inputLimit → reportOf input ≡ filingLines (filingsOf input) ++ outcomeLines (mergeOf headers (inForceAfter input))
+unfolding reportOf
+printed input h =
+    ap (λ (t : Bool). cond t (ascii "input too long\n") (linesOf (filingsOf input))) (le-ltb inputLimit (length input) h)
+    ∙ ap (λ (l : List ℕ). filingLines (filingsOf input) ++ l)
+    (outcome-lines mergeBuffer (length-replicate {A = ℕ} (fileSize listLimit) 0) (mergeOf headers (inForceAfter input)) (few-merged (inForceAfter input)))
+
+-- the records printed are those of the merged list: it allows each header exactly the common actions, is the widest such list, and nothing in it can be struck
+pub printed-list : (input : List ℕ) (m : List Entry) → mergeOf headers (inForceAfter input) ≡ merged m → MergedList (inForceAfter input) m (length m)
+printed-list input m e = go (inForceAfter input) (all-covering (filingsOf input)) e
+  where
+    go : (ps : List (List Entry)) → AllCovering ps → mergeOf headers ps ≡ merged m → MergedList ps m (length m)
+    go [] c e = absurd (let z : _≡_ {A = ℕ} 0 1 = cc in omega arith)
+    go (p ∷ ps) c e = merged-list-is p ps c m e
+
+-- ---- demand 3
+
+put : (k : Book) (i : ℕ) (p : List Entry) → AllFit p → EachSlot AllFit k → EachSlot AllFit (set k i (some p))
+put [] i p a e = tt
+put (none ∷ k) zero p a e = (a, e)
+put (some q ∷ k) zero p a e = (a, e .1)
+put (none ∷ k) (suc i) p a e = put k i p a e
+put (some q ∷ k) (suc i) p a e = (e .0, put k i p a (e .1))
+
+-- lists that were read from bytes fit their widths
+all-fit : (n : ℕ) (s : List ℕ) (k : Book) → Bytes s → EachSlot AllFit k → EachSlot AllFit (bookFrom k (filingsIn n s))
+all-fit zero s k b e = e
+all-fit (suc n) [] k b e = e
+all-fit (suc n) (p ∷ s) k b e = all-fit n (drop (fileRun s) s) _ (bytes-drop (fileRun s) s bytes) (go (isAccepted (filingOf p file)))
+  where
+    file : List ℕ
+    file = take (fileRun s) s
+
+    bytes : Bytes s
+    bytes i = b (suc i)
+
+    go : (t : Bool) → EachSlot AllFit (cond t (set k (p - 1) (some (listIn file))) k)
+    go true = put k (p - 1) (listIn file) (entries-fit file headSize (countIn file) (bytes-take (fileRun s) s bytes)) e
+    go false = e
+
+-- the answer and the buffer that are printed
+pub printed-keeps : (input : List ℕ) → Bytes input
+    → Demand3 (inForceAfter input) mergeBuffer (mergingOf (bookAfter (filingsOf input)) mergeBuffer .0) (mergingOf (bookAfter (filingsOf input)) mergeBuffer .1)
+unfolding filingsOf bookAfter
+printed-keeps input b =
+    demand-3 mergeBuffer (inForceAfter input) (all-covering (filingsOf input))
+    (reads-back (inForceAfter input) (in-force AllFit (bookAfter (filingsOf input)) (all-fit (length input) input emptyBook b tt)))

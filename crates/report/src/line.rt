@@ -1,0 +1,84 @@
+// The lines of the report.
+use crate::text::put;
+use crate::text::put_decimal;
+use crate::text::put_hex;
+use bench::calls::FileAnswer;
+use policy::header::Header;
+use policy::refusal::Refusal;
+use policy::refusal::number_of;
+use wire::header::header_bytes;
+ghost use mathlib.Core.Path.{_≡_};
+ghost use mathlib.Core.List.{_++_};
+ghost use Prim.Native.Nat.{_≤_};
+ghost use lib.ListN.{length};
+ghost use Rattle.policy.specs.Refusals.{numbers, refusal};
+ghost use Rattle.wire.specs.Format.{headerBytes};
+ghost use Rattle.bench.specs.Answers.{filed};
+ghost use Rattle.report.specs.Text.{ascii, decimal, hex, Printed};
+ghost use Rattle.report.specs.Report.{detail, refusedLine, filingLine};
+
+// A space and a header.
+fn put_header(out: &mut [u8], at: usize, h: Header) -> usize
+    requires { ⌜ at ≤ length (now out) ⌝ }
+    ensures { λ r. ⌜ Printed (now (out .entry)) at (ascii " " ++ hex (headerBytes (numbers h))) (now (out .exit)) r ⌝ }
+{
+    let next = put(out, at, b" ");
+    let bytes = header_bytes(h);
+    put_hex(out, next, &bytes)
+}
+
+// A space and an entry number.
+fn put_entry(out: &mut [u8], at: usize, i: usize) -> usize
+    requires { ⌜ at ≤ length (now out) ⌝ }
+    ensures { λ r. ⌜ Printed (now (out .entry)) at (ascii " " ++ decimal i) (now (out .exit)) r ⌝ }
+{
+    let next = put(out, at, b" ");
+    put_decimal(out, next, i)
+}
+
+// What follows the number of a refusal.
+fn put_detail(out: &mut [u8], at: usize, r: Refusal) -> usize
+    requires { ⌜ at ≤ length (now out) ⌝ }
+    ensures { λ n. ⌜ Printed (now (out .entry)) at (detail (refusal r)) (now (out .exit)) n ⌝ }
+{
+    match r {
+        Refusal::Crossed(i) => put_entry(out, at, i),
+        Refusal::Gap(h) => put_header(out, at, h),
+        Refusal::Conflict(h) => put_header(out, at, h),
+        _ => at,
+    }
+}
+
+pub fn put_refused(out: &mut [u8], at: usize, party: u8, r: Refusal) -> usize
+    requires { ⌜ at ≤ length (now out) ⌝ }
+    ensures { λ n. ⌜ Printed (now (out .entry)) at (refusedLine party (refusal r)) (now (out .exit)) n ⌝ }
+{
+    let word = put(out, at, b"refused ");
+    let number = put_decimal(out, word, party as usize);
+    let space = put(out, number, b" ");
+    let refusal = put_decimal(out, space, number_of(r) as usize);
+    let end = put_detail(out, refusal, r);
+    put(out, end, b"\n")
+}
+
+fn put_filed(out: &mut [u8], at: usize, party: u8, n: usize) -> usize
+    requires { ⌜ at ≤ length (now out) ⌝ }
+    ensures { λ r. ⌜ Printed (now (out .entry)) at (ascii "filed " ++ decimal party ++ ascii " " ++ decimal n ++ ascii "\n") (now (out .exit)) r ⌝ }
+{
+    let word = put(out, at, b"filed ");
+    let number = put_decimal(out, word, party as usize);
+    let space = put(out, number, b" ");
+    let end = put_decimal(out, space, n);
+    put(out, end, b"\n")
+}
+
+// The line of a filing.
+pub fn put_filing(out: &mut [u8], at: usize, party: u8, answer: FileAnswer) -> usize
+    requires { ⌜ at ≤ length (now out) ⌝ }
+    ensures { λ r. ⌜ Printed (now (out .entry)) at (filingLine party (filed answer)) (now (out .exit)) r ⌝ }
+{
+    match answer {
+        FileAnswer::Filed(n) => put_filed(out, at, party, n),
+        FileAnswer::Refused(r) => put_refused(out, at, party, r),
+    }
+}
