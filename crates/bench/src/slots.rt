@@ -18,7 +18,7 @@ pub struct Slot {
 }
 
 // A slot without a list.
-pub fn vacant_slot() -> Slot
+pub(crate) fn vacant_slot() -> Slot
     ensures { λ r. ⌜ r ≡ vacantSlot ⌝ }
 {
     Slot {
@@ -28,7 +28,7 @@ pub fn vacant_slot() -> Slot
 }
 
 // A slot that holds a file.
-pub fn slot_with(file: &[u8]) -> Slot
+pub(crate) fn slot_with(file: &[u8]) -> Slot
     requires { ⌜ length (now file) ≤ slotSize ⌝ }
     ensures { λ r. ⌜ r ≡ slotWith (now (file .entry)) ⌝ }
 {
@@ -48,7 +48,7 @@ fn add_records(s: Stage, records: &[u8]) -> Stage
 }
 
 // Rules 1 and 2 for a slot's list, if it has one. For every value of a slot: no more than its bytes are read.
-pub fn add_slot(s: Stage, slot: Slot) -> Stage
+pub(crate) fn add_slot(s: Stage, slot: Slot) -> Stage
     ensures { λ r. ⌜ (r ≡ afterSlot s slot) × SlotFits (listInSlot slot) ⌝ }
 {
     let n = slot.length;

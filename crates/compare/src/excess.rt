@@ -11,7 +11,7 @@ ghost use Rattle.compare.specs.Comparison.{excessOf};
 
 // The least header that the first list allows an action that the second does not. What an entry of the first catches is missed by those
 // before it, and is allowed too much where the second allows it a set that lacks an action of the entry.
-pub fn least_excess(first: &[u8], second: &[u8]) -> Found
+pub(crate) fn least_excess(first: &[u8], second: &[u8]) -> Found
     ensures { λ r. ⌜ r ≡ excessOf (recordsIn (now (first .entry))) (recordsIn (now (second .entry))) ⌝ }
 {
     let n = first.len() / RECORD_SIZE;

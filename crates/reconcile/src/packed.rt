@@ -21,7 +21,7 @@ ghost use Rattle.region.specs.Records.{recordsIn};
 ghost use Rattle.reconcile.specs.Packed.{Put, Offers};
 
 // Puts the record of e in place i.
-pub fn put_record(packed: &mut [u8], i: usize, e: Entry)
+pub(crate) fn put_record(packed: &mut [u8], i: usize, e: Entry)
     requires { ⌜ recordSize * (i + 1) ≤ length (now packed) ⌝ }
     ensures { λ _. ⌜ Put (now (packed .entry)) i e (now (packed .exit)) ⌝ }
 {
@@ -29,7 +29,7 @@ pub fn put_record(packed: &mut [u8], i: usize, e: Entry)
 }
 
 // Whether e catches a header that the records leave uncaught.
-pub fn catches(records: &[u8], e: Entry) -> bool
+pub(crate) fn catches(records: &[u8], e: Entry) -> bool
     ensures { λ r. ⌜ r ≡ not (shadowed headers (recordsIn (now (records .entry))) e) ⌝ }
 {
     let found = least_missed(records, selector_of(e), Found::Nothing);
@@ -58,7 +58,7 @@ fn offer(packed: &mut [u8], n: usize, e: Entry) -> usize
 }
 
 // Offers the records of a list, one after the other.
-pub fn offer_list(packed: &mut [u8], n: usize, records: &[u8]) -> usize
+pub(crate) fn offer_list(packed: &mut [u8], n: usize, records: &[u8]) -> usize
     requires { ⌜ length (now packed) ≡ recordSize * listLimit ⌝ }
     ensures { λ r. ⌜ Offers (now (packed .entry)) n (recordsIn (now (records .entry))) (now (packed .exit)) r ⌝ }
 {
@@ -74,7 +74,7 @@ pub fn offer_list(packed: &mut [u8], n: usize, records: &[u8]) -> usize
 }
 
 // Offers what d and each record of a list have in common, one after the other.
-pub fn offer_row(packed: &mut [u8], n: usize, d: Entry, records: &[u8]) -> usize
+pub(crate) fn offer_row(packed: &mut [u8], n: usize, d: Entry, records: &[u8]) -> usize
     requires { ⌜ length (now packed) ≡ recordSize * listLimit ⌝ }
     ensures { λ r. ⌜ Offers (now (packed .entry)) n (map (both d) (recordsIn (now (records .entry)))) (now (packed .exit)) r ⌝ }
 {

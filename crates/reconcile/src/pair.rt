@@ -43,7 +43,7 @@ fn lesser1(a: u8, b: u8) -> u8
 }
 
 // Selectors and action sets intersected.
-pub fn both_entries(d: Entry, e: Entry) -> Entry
+pub(crate) fn both_entries(d: Entry, e: Entry) -> Entry
     ensures { λ r. ⌜ r ≡ both d e ⌝ }
 {
     Entry {

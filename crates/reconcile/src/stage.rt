@@ -84,7 +84,7 @@ fn first_list(records: &[u8]) -> Stage
 }
 
 // At most 256.
-pub fn within_limit(n: usize) -> usize
+pub(crate) fn within_limit(n: usize) -> usize
     ensures { λ r. ⌜ r ≡ min n listLimit ⌝ }
 {
     if n < LIST_LIMIT { n } else { LIST_LIMIT }

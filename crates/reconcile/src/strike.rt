@@ -20,7 +20,7 @@ ghost use Rattle.reconcile.specs.Rules.{isEmpty, needless};
 ghost use Rattle.reconcile.specs.Packed.{Strikes};
 
 // Rule 3: the least header that the list allows no action.
-pub fn least_conflict(records: &[u8]) -> Found
+pub(crate) fn least_conflict(records: &[u8]) -> Found
     ensures { λ r. ⌜ r ≡ least headers (λ h. isEmpty (allowed (recordsIn (now (records .entry))) h)) ⌝ }
 {
     least_treated(
@@ -53,7 +53,7 @@ fn is_needless(packed: &[u8], k: usize, top: usize, n: usize) -> bool
 }
 
 // Rule 4: examines n records from last to first. What is left stands from the returned place on.
-pub fn strike_records(packed: &mut [u8], n: usize) -> usize
+pub(crate) fn strike_records(packed: &mut [u8], n: usize) -> usize
     requires { ⌜ recordSize * n ≤ length (now packed) ⌝ }
     ensures { λ r. ⌜ Strikes (now (packed .entry)) n (now (packed .exit)) r ⌝ }
 {

@@ -11,7 +11,7 @@ ghost use Rattle.policy.specs.Header.{arity, header, ranges, sizes};
 ghost use Rattle.region.specs.Corner.{improves};
 
 // The low corner of b as a header.
-pub fn low_corner(b: Region) -> Header
+pub(crate) fn low_corner(b: Region) -> Header
     requires { ⌜ fits arity sizes (lows arity (ranges b)) ≡ true ⌝ }
     ensures { λ h. ⌜ h ≡ header (lows arity (ranges b)) ⌝ }
 {
@@ -25,7 +25,7 @@ pub fn low_corner(b: Region) -> Header
 }
 
 // Whether h comes before the finding.
-pub fn is_improved(h: Header, best: Found) -> bool
+pub(crate) fn is_improved(h: Header, best: Found) -> bool
     ensures { λ t. ⌜ t ≡ improves h best ⌝ }
 {
     match best {

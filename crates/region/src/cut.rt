@@ -38,7 +38,7 @@ fn part_up_to(b: Range, s: Range) -> Range
 }
 
 // The part of b above s in field number f.
-pub fn upper_part(b: Region, s: Region, f: usize) -> Region
+pub(crate) fn upper_part(b: Region, s: Region, f: usize) -> Region
     ensures { λ r. ⌜ ranges r ≡ atField above arity f (ranges b) (ranges s) ⌝ }
 {
     let mut r = b;
@@ -66,7 +66,7 @@ pub fn upper_part(b: Region, s: Region, f: usize) -> Region
 }
 
 // The part of b up to the end of s in field number f.
-pub fn lower_part(b: Region, s: Region, f: usize) -> Region
+pub(crate) fn lower_part(b: Region, s: Region, f: usize) -> Region
     ensures { λ r. ⌜ ranges r ≡ atField upTo arity f (ranges b) (ranges s) ⌝ }
 {
     let mut r = b;
@@ -128,7 +128,7 @@ fn offer_field(c: Candidate, f: usize, rank: u32, b: Range, s: Range) -> Candida
 }
 
 // A field in which s ends inside b, or FIELDS if there is none.
-pub fn next_field(b: Region, s: Region, r: Ranks) -> usize
+pub(crate) fn next_field(b: Region, s: Region, r: Ranks) -> usize
     ensures { λ f. ⌜ Next arity 0 (ranges b) (ranges s) f ⌝ }
 {
     let none = Candidate {

@@ -9,7 +9,7 @@ ghost use Rattle.policy.specs.Policy.{missed};
 ghost use Rattle.region.specs.Records.{recordsIn};
 
 // The least header that no record matches; nothing if the list is covering.
-pub fn first_gap(records: &[u8]) -> Found
+pub(crate) fn first_gap(records: &[u8]) -> Found
     ensures { λ r. ⌜ r ≡ least headers (missed (recordsIn (now (records .entry)))) ⌝ }
 {
     least_missed(records, whole(), Found::Nothing)

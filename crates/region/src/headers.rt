@@ -35,7 +35,7 @@ pub fn whole() -> Region
 }
 
 // Box number i of the set.
-pub fn header_box(i: usize) -> Region
+pub(crate) fn header_box(i: usize) -> Region
     requires { ⌜ i < length (headers .boxes) ⌝ }
     ensures { λ r. ⌜ ranges r ≡ getD (headers .boxes) i everything ⌝ }
 {

@@ -58,7 +58,7 @@ fn least_in_part(a: &[u8], b: &[u8], x: Region, best: Found, left: usize) -> Fou
 }
 
 // The lesser of best and the least header of x that no record of a and no record of b matches.
-pub fn least_open(a: &[u8], b: &[u8], x: Region, best: Found) -> Found
+pub(crate) fn least_open(a: &[u8], b: &[u8], x: Region, best: Found) -> Found
     ensures { λ r. ⌜ r ≡ lesser (leastIn headers (ranges x) (missed (recordsIn (now (a .entry)) ++ recordsIn (now (b .entry))))) best ⌝ }
 {
     let left = a.len() / RECORD_SIZE + b.len() / RECORD_SIZE;

@@ -142,7 +142,7 @@ fn pick(s: &[u8], b: Region) -> Picked
 }
 
 // A record of one of two lists that holds the low corner of x.
-pub fn pick_of_two(a: &[u8], b: &[u8], x: Region) -> Picked
+pub(crate) fn pick_of_two(a: &[u8], b: &[u8], x: Region) -> Picked
     ensures { λ r. ⌜ Picks (recordsIn (now (a .entry)) ++ recordsIn (now (b .entry))) (ranges x) r ⌝ }
 {
     larger(x, pick(a, x), pick(b, x))

@@ -85,7 +85,7 @@ fn cuts(x: Region, cut: Region) -> u32 {
 }
 
 // For each field, how many records of a and b that meet x go past the end of the record to be cut off. A single cut needs no count.
-pub fn rank_fields(a: &[u8], b: &[u8], x: Region, cut: Region) -> Ranks {
+pub(crate) fn rank_fields(a: &[u8], b: &[u8], x: Region, cut: Region) -> Ranks {
     let none = Ranks {
         local: 0,
         remote: 0,

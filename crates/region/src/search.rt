@@ -52,7 +52,7 @@ fn least_caught_by(records: &[u8], k: usize, b: Region) -> Found
 }
 
 // The least header of b that the list of records treats as wanted.
-pub fn search_records(records: &[u8], b: Region, want: Want) -> Found
+pub(crate) fn search_records(records: &[u8], b: Region, want: Want) -> Found
     ensures { λ r. ⌜ r ≡ leastIn headers (ranges b) (treated want (recordsIn (now (records .entry)))) ⌝ }
 {
     match want {

@@ -35,7 +35,7 @@ pub enum Sets {
 }
 
 // Whether the set a is wanted.
-pub fn is_wanted(q: Sets, a: u16) -> bool
+pub(crate) fn is_wanted(q: Sets, a: u16) -> bool
     ensures { λ t. ⌜ t ≡ wanted q a ⌝ }
 {
     match q {
@@ -46,7 +46,7 @@ pub fn is_wanted(q: Sets, a: u16) -> bool
 }
 
 // Whether the records of a and of b leave no header of x that comes before best.
-pub fn is_exhausted(a: &[u8], b: &[u8], x: Region, best: Found) -> bool
+pub(crate) fn is_exhausted(a: &[u8], b: &[u8], x: Region, best: Found) -> bool
     ensures { λ t. ⌜ (t ≡ true → lesser (leastIn headers (ranges x) (missed (recordsIn (now (a .entry)) ++ recordsIn (now (b .entry))))) best ≡ best) ⌝ }
 {
     match least_open(a, b, x, best) {

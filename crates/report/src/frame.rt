@@ -6,7 +6,7 @@ ghost use lib.ListN.{length, drop};
 ghost use Rattle.report.specs.Report.{fileRun};
 
 // Where the file that starts at a place of the input ends: behind its L + 2 bytes, or at the end of the input if less is left.
-pub fn file_end(input: &[u8], start: usize) -> usize
+pub(crate) fn file_end(input: &[u8], start: usize) -> usize
     requires { ⌜ start ≤ length (now input) ⌝ }
     ensures { λ r. ⌜ r ≡ start + fileRun (drop start (now (input .entry))) ⌝ }
 {

@@ -49,7 +49,7 @@ fn put_detail(out: &mut [u8], at: usize, r: Refusal) -> usize
     }
 }
 
-pub fn put_refused(out: &mut [u8], at: usize, party: u8, r: Refusal) -> usize
+pub(crate) fn put_refused(out: &mut [u8], at: usize, party: u8, r: Refusal) -> usize
     requires { ⌜ at ≤ length (now out) ⌝ }
     ensures { λ n. ⌜ Printed (now (out .entry)) at (refusedLine party (refusal r)) (now (out .exit)) n ⌝ }
 {
@@ -73,7 +73,7 @@ fn put_filed(out: &mut [u8], at: usize, party: u8, n: usize) -> usize
 }
 
 // The line of a filing.
-pub fn put_filing(out: &mut [u8], at: usize, party: u8, answer: FileAnswer) -> usize
+pub(crate) fn put_filing(out: &mut [u8], at: usize, party: u8, answer: FileAnswer) -> usize
     requires { ⌜ at ≤ length (now out) ⌝ }
     ensures { λ r. ⌜ Printed (now (out .entry)) at (filingLine party (filed answer)) (now (out .exit)) r ⌝ }
 {

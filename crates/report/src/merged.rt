@@ -37,7 +37,7 @@ fn put_records(out: &mut [u8], at: usize, n: usize, file: &[u8]) -> usize
 }
 
 // The number of entries and the records of the file.
-pub fn put_merged(out: &mut [u8], at: usize, n: usize, file: &[u8]) -> usize
+pub(crate) fn put_merged(out: &mut [u8], at: usize, n: usize, file: &[u8]) -> usize
     requires { ⌜ (at ≤ length (now out)) × (fileSize n ≤ length (now file)) ⌝ }
     ensures { λ r. ⌜ Printed (now (out .entry)) at (ascii "merged " ++ decimal n ++ ascii "\n" ++ recordLines n (drop headSize (now (file .entry)))) (now (out .exit)) r ⌝ }
 {

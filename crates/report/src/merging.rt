@@ -16,7 +16,7 @@ ghost use Rattle.report.specs.Report.{mergingLines, mergeBuffer};
 // The length of the longest file.
 const FILE_SIZE: usize = HEAD_SIZE + RECORD_SIZE * LIST_LIMIT;
 
-pub fn put_merging(out: &mut [u8], at: usize, bench: Bench) -> usize
+pub(crate) fn put_merging(out: &mut [u8], at: usize, bench: Bench) -> usize
     requires { ⌜ at ≤ length (now out) ⌝ }
     ensures { λ r. ⌜ Printed (now (out .entry)) at (mergingLines (mergingOf (bookOf bench) mergeBuffer)) (now (out .exit)) r ⌝ }
 {

@@ -16,7 +16,7 @@ fn put_byte(out: &mut [u8], at: usize, b: u8) -> usize
     at
 }
 
-pub fn put(out: &mut [u8], at: usize, s: &[u8]) -> usize
+pub(crate) fn put(out: &mut [u8], at: usize, s: &[u8]) -> usize
     requires { ⌜ at ≤ length (now out) ⌝ }
     ensures { λ r. ⌜ Printed (now (out .entry)) at (now (s .entry)) (now (out .exit)) r ⌝ }
 {
@@ -41,7 +41,7 @@ fn digit(d: u8) -> u8
 }
 
 // A number in decimal.
-pub fn put_decimal(out: &mut [u8], at: usize, n: usize) -> usize
+pub(crate) fn put_decimal(out: &mut [u8], at: usize, n: usize) -> usize
     requires { ⌜ at ≤ length (now out) ⌝ }
     ensures { λ r. ⌜ Printed (now (out .entry)) at (decimal n) (now (out .exit)) r ⌝ }
 {
@@ -61,7 +61,7 @@ fn put_hex_byte(out: &mut [u8], at: usize, b: u8) -> usize
 }
 
 // Each byte of s as two hexadecimal digits.
-pub fn put_hex(out: &mut [u8], at: usize, s: &[u8]) -> usize
+pub(crate) fn put_hex(out: &mut [u8], at: usize, s: &[u8]) -> usize
     requires { ⌜ at ≤ length (now out) ⌝ }
     ensures { λ r. ⌜ Printed (now (out .entry)) at (hex (now (s .entry))) (now (out .exit)) r ⌝ }
 {

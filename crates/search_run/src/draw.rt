@@ -5,21 +5,21 @@ use policy::region::Region;
 ghost use Prim.Native.Nat.{_≤_, _<_};
 
 // A number that comes of x and k.
-pub fn after(x: u64, k: u64) -> u64 {
+pub(crate) fn after(x: u64, k: u64) -> u64 {
     let a = (x % 4294967296 * 1664525 + k % 65536 * 22695477 + 1013904223) % 4294967296;
     let b = (a * 1664525 + 1013904223) % 4294967296;
     b / 256 + b % 256 * 16777216
 }
 
 // 1 to 6 entries.
-pub fn entries(x: u64) -> usize
+pub(crate) fn entries(x: u64) -> usize
     ensures { λ r. ⌜ r ≤ 6 ⌝ }
 {
     1 + (x / 7 % 6) as usize
 }
 
 // One of four sets.
-pub fn set(x: u64) -> u16 {
+pub(crate) fn set(x: u64) -> u16 {
     (x / 16 % 4) as u16
 }
 
@@ -65,7 +65,7 @@ fn box_range(x: u64, base: u32) -> Range {
 }
 
 // The cube: its first number in each field.
-pub fn base(f: u32) -> u32 {
+pub(crate) fn base(f: u32) -> u32 {
     if f == 0 {
         return 0xffff_fffc;
     }
@@ -81,7 +81,7 @@ pub fn base(f: u32) -> u32 {
     126
 }
 
-pub fn region(x: u64) -> Region {
+pub(crate) fn region(x: u64) -> Region {
     Region {
         local: box_range(after(x, 1), base(0)),
         remote: box_range(after(x, 2), base(1)),
@@ -91,7 +91,7 @@ pub fn region(x: u64) -> Region {
     }
 }
 
-pub fn entry(x: u64) -> Entry {
+pub(crate) fn entry(x: u64) -> Entry {
     let local = range(after(x, 1), base(0), 0xffff_ffff);
     let remote = range(after(x, 2), base(1), 0xffff_ffff);
     let local_port = range(after(x, 3), base(2), 0xffff);

@@ -63,7 +63,7 @@ fn put_entry(s: &mut [u8], at: usize, e: Entry)
 }
 
 // The head and n drawn entries.
-pub fn fill(s: &mut [u8], x: u64, n: usize)
+pub(crate) fn fill(s: &mut [u8], x: u64, n: usize)
     requires { ⌜ (n ≤ 6) × (length (now s) ≡ 173) ⌝ }
     ensures { λ r. ⌜ length (now (s .exit)) ≡ length (now (s .entry)) ⌝ }
 {

@@ -14,7 +14,7 @@ ghost use lib.ListN.{length};
 ghost use Rattle.wire.specs.Format.{recordSize};
 
 // Whether two headers are the same.
-pub fn is_same(h: Header, g: Header) -> bool {
+pub(crate) fn is_same(h: Header, g: Header) -> bool {
     if h.local != g.local {
         return false;
     }
@@ -84,7 +84,7 @@ fn header(i: u32) -> Header {
     }
 }
 
-pub fn walk(records: &[u8], b: Region, want: Want) -> Found {
+pub(crate) fn walk(records: &[u8], b: Region, want: Want) -> Found {
     let mut i: u32 = 0;
     while i < 1024 {
         let h = header(i);
