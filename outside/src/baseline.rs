@@ -3,9 +3,7 @@
 use crate::entry::{file, header_bytes, Box5, Entry, Header, List};
 use crate::merge::{merge, Form, Merged};
 use crate::model::Want;
-use crate::search::{
-    caught_by, decode, differing, gap, is_proper, lookup_packed, selector_of, unrefined,
-};
+use crate::search::{all_proper, caught_by, decode, differing, gap, lookup_packed, unrefined};
 use crate::search::{Decoded, Lists, Packed};
 
 /// The records of a file that passes checks 1 to 4, else the refusal's number.
@@ -21,7 +19,7 @@ pub fn records(file: &[u8], limit: usize) -> Result<&[u8], u32> {
         return Err(3);
     }
     let records = &file[5..];
-    if records.chunks_exact(28).any(|r| !is_proper(&selector_of(r))) {
+    if !all_proper(records) {
         return Err(4);
     }
     Ok(records)

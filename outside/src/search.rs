@@ -3,7 +3,7 @@
 //! the fastest version we know of, over decoded selectors, which keeps for each box only the
 //! records that meet it.
 
-use crate::entry::{Box5, Entry, Header, List, ALL, FIELDS, RECORD, WIDTH};
+use crate::entry::{Box5, Entry, Header, List, ALL, FIELDS, RECORD};
 use std::ops::Range;
 
 /// How much more a record counts in the pick for each field in which it reaches the box's end: such
@@ -69,87 +69,145 @@ pub struct Packed<'a> {
     pub lists: [&'a [u8]; 2],
 }
 
-const AT: [usize; FIELDS] = [0, 8, 16, 20, 24];
+type Record = [u8; RECORD];
+
+/// The records of a slice.
+fn records(bytes: &[u8]) -> &[Record] {
+    bytes.as_chunks().0
+}
 
 #[inline(always)]
-fn read(record: &[u8], at: usize, width: usize) -> u32 {
-    match width {
-        4 => u32::from_be_bytes([record[at], record[at + 1], record[at + 2], record[at + 3]]),
-        2 => u16::from_be_bytes([record[at], record[at + 1]]) as u32,
-        _ => record[at] as u32,
+fn number4(r: &Record, at: usize) -> u32 {
+    u32::from_be_bytes([r[at], r[at + 1], r[at + 2], r[at + 3]])
+}
+
+#[inline(always)]
+fn number2(r: &Record, at: usize) -> u32 {
+    u16::from_be_bytes([r[at], r[at + 1]]) as u32
+}
+
+/// A field's range. With a constant field, no more than two loads are left of it.
+#[inline(always)]
+fn range(r: &Record, f: usize) -> (u32, u32) {
+    match f {
+        0 => (number4(r, 0), number4(r, 4)),
+        1 => (number4(r, 8), number4(r, 12)),
+        2 => (number2(r, 16), number2(r, 18)),
+        3 => (number2(r, 20), number2(r, 22)),
+        _ => (r[24] as u32, r[25] as u32),
     }
 }
 
-#[inline(always)]
-fn low(record: &[u8], f: usize) -> u32 {
-    read(record, AT[f], WIDTH[f])
+fn actions(r: &Record) -> u16 {
+    number2(r, 26) as u16
 }
 
 #[inline(always)]
-fn high(record: &[u8], f: usize) -> u32 {
-    read(record, AT[f] + WIDTH[f], WIDTH[f])
+fn holds(r: &Record, f: usize, x: u32) -> bool {
+    let (low, high) = range(r, f);
+    low <= x && x <= high
 }
 
-/// The ends of a record inside `x`, and its size for the pick, if it holds the low corner.
+/// Whether a record holds all five numbers, reading no more of it than needed.
 #[inline(always)]
-fn offered(record: &[u8], x: &Box5) -> Option<(Header, f64)> {
-    let mut end = [0; FIELDS];
-    for f in 0..FIELDS {
-        if x.low[f] < low(record, f) {
-            return None;
-        }
-        end[f] = high(record, f);
-        if end[f] < x.low[f] {
-            return None;
-        }
+fn holds_all(r: &Record, x: &Header) -> bool {
+    holds(r, 0, x[0])
+        && holds(r, 1, x[1])
+        && holds(r, 2, x[2])
+        && holds(r, 3, x[3])
+        && holds(r, 4, x[4])
+}
+
+#[inline(always)]
+fn is_ordered(r: &Record, f: usize) -> bool {
+    let (low, high) = range(r, f);
+    low <= high
+}
+
+/// Whether no record has a crossed range.
+pub fn all_proper(bytes: &[u8]) -> bool {
+    records(bytes).iter().all(|r| {
+        is_ordered(r, 0)
+            && is_ordered(r, 1)
+            && is_ordered(r, 2)
+            && is_ordered(r, 3)
+            && is_ordered(r, 4)
+    })
+}
+
+/// How much a field counts in the pick.
+#[inline(always)]
+fn width(r: &Record, f: usize, x: &Box5) -> f64 {
+    let end = range(r, f).1;
+    if end < x.high[f] {
+        (end - x.low[f]) as f64 + 1.0
+    } else {
+        ((x.high[f] - x.low[f]) as f64 + 1.0) * REACHES
     }
-    let mut size = 1.0;
-    for f in 0..FIELDS {
-        if end[f] < x.high[f] {
-            size *= (end[f] - x.low[f]) as f64 + 1.0;
-        } else {
-            end[f] = x.high[f];
-            size *= ((x.high[f] - x.low[f]) as f64 + 1.0) * REACHES;
-        }
-    }
-    Some((end, size))
 }
 
-/// The largest record that holds the low corner of `x`; one that covers `x` ends the pick.
-fn pick(records: [&[u8]; 2], x: &Box5) -> Option<Header> {
+/// The size for the pick of a record that holds the low corner.
+#[inline(always)]
+fn size(r: &Record, x: &Box5) -> f64 {
+    width(r, 0, x) * width(r, 1, x) * width(r, 2, x) * width(r, 3, x) * width(r, 4, x)
+}
+
+/// The size of a record that covers `x`.
+fn full_size(x: &Box5) -> f64 {
+    (0..FIELDS).map(|f| ((x.high[f] - x.low[f]) as f64 + 1.0) * REACHES).product()
+}
+
+/// Where the largest record that holds the low corner of `x` ends in it; one that covers `x` ends
+/// the pick.
+fn pick(lists: [&[Record]; 2], x: &Box5) -> Option<Header> {
+    let full = full_size(x);
     let mut best = None;
     let mut largest = 0.0;
-    for list in records {
-        for record in list.chunks_exact(RECORD) {
-            if let Some((end, size)) = offered(record, x) {
-                if end == x.high {
-                    return Some(end);
-                }
+    'pick: for list in lists {
+        for r in list.iter().rev() {
+            if holds_all(r, &x.low) {
+                let size = size(r, x);
                 if size > largest {
                     largest = size;
-                    best = Some(end);
+                    best = Some(r);
+                }
+                if size >= full {
+                    break 'pick;
                 }
             }
         }
     }
-    best
+    best.map(|r| std::array::from_fn(|f| range(r, f).1.min(x.high[f])))
+}
+
+#[inline(always)]
+fn overlaps(r: &Record, f: usize, x: &Box5) -> bool {
+    let (low, high) = range(r, f);
+    low <= x.high[f] && x.low[f] <= high
+}
+
+#[inline(always)]
+fn crosses(r: &Record, f: usize, end: &Header) -> u32 {
+    let (low, high) = range(r, f);
+    (low <= end[f] && end[f] < high) as u32
 }
 
 /// For each field, how many records that meet `x` cross the cut.
-fn crossing(records: [&[u8]; 2], x: &Box5, end: &Header) -> [u32; FIELDS] {
+fn crossing(lists: [&[Record]; 2], x: &Box5, end: &Header) -> [u32; FIELDS] {
     let mut counts = [0; FIELDS];
-    for list in records {
-        'next: for record in list.chunks_exact(RECORD) {
-            let mut crosses = [0; FIELDS];
-            for f in 0..FIELDS {
-                let (low, high) = (low(record, f), high(record, f));
-                if x.high[f] < low || high < x.low[f] {
-                    continue 'next;
-                }
-                crosses[f] = (low <= end[f] && end[f] < high) as u32;
-            }
-            for f in 0..FIELDS {
-                counts[f] += crosses[f];
+    for list in lists {
+        for r in list {
+            let meets = overlaps(r, 0, x)
+                && overlaps(r, 1, x)
+                && overlaps(r, 2, x)
+                && overlaps(r, 3, x)
+                && overlaps(r, 4, x);
+            if meets {
+                counts[0] += crosses(r, 0, end);
+                counts[1] += crosses(r, 1, end);
+                counts[2] += crosses(r, 2, end);
+                counts[3] += crosses(r, 3, end);
+                counts[4] += crosses(r, 4, end);
             }
         }
     }
@@ -157,7 +215,7 @@ fn crossing(records: [&[u8]; 2], x: &Box5, end: &Header) -> [u32; FIELDS] {
 }
 
 fn least_packed(
-    records: [&[u8]; 2],
+    records: [&[Record]; 2],
     x: &Box5,
     best: Option<Header>,
     boxes: &mut u64,
@@ -184,12 +242,12 @@ fn least_packed(
 }
 
 impl<'a> Packed<'a> {
-    fn record(&self, list: usize, i: usize) -> &'a [u8] {
-        &self.lists[list][RECORD * i..RECORD * (i + 1)]
+    fn record(&self, list: usize, i: usize) -> &'a Record {
+        &records(self.lists[list])[i]
     }
 
-    fn part(&self, part: Part) -> &'a [u8] {
-        &self.lists[part.0][RECORD * part.1.start..RECORD * part.1.end]
+    fn part(&self, part: Part) -> &'a [Record] {
+        &records(self.lists[part.0])[part.1]
     }
 }
 
@@ -203,7 +261,7 @@ impl Lists for Packed<'_> {
     }
 
     fn actions(&self, list: usize, i: usize) -> u16 {
-        read(self.record(list, i), 26, 2) as u16
+        actions(self.record(list, i))
     }
 
     fn least_open(
@@ -222,13 +280,9 @@ impl Lists for Packed<'_> {
 }
 
 /// The selector of a record.
-pub fn selector_of(record: &[u8]) -> Box5 {
-    let mut b = Box5 { low: [0; FIELDS], high: [0; FIELDS] };
-    for f in 0..FIELDS {
-        b.low[f] = low(record, f);
-        b.high[f] = high(record, f);
-    }
-    b
+fn selector_of(r: &Record) -> Box5 {
+    let ranges: [(u32, u32); FIELDS] = std::array::from_fn(|f| range(r, f));
+    Box5 { low: ranges.map(|(low, _)| low), high: ranges.map(|(_, high)| high) }
 }
 
 // ---------------------------------------------------------------- over decoded selectors
@@ -239,11 +293,9 @@ pub struct Decoded<'a> {
 }
 
 /// The entries of records.
-pub fn decode(records: &[u8]) -> List {
-    records
-        .chunks_exact(RECORD)
-        .map(|r| Entry { selector: selector_of(r), actions: read(r, 26, 2) as u16 })
-        .collect()
+pub fn decode(bytes: &[u8]) -> List {
+    let entry = |r| Entry { selector: selector_of(r), actions: actions(r) };
+    records(bytes).iter().map(entry).collect()
 }
 
 /// What the records say about the low corner of a box.
@@ -451,8 +503,7 @@ pub fn unrefined(lists: &impl Lists, boxes: &mut u64) -> Option<Header> {
     (0..lists.count(0)).fold(None, |best, i| unrefined_by(lists, i, best, boxes))
 }
 
-/// The number of the first record that matches, reading no more of a record than needed.
-pub fn lookup_packed(records: &[u8], h: &Header) -> Option<usize> {
-    let matches = |r: &[u8]| (0..FIELDS).all(|f| low(r, f) <= h[f] && h[f] <= high(r, f));
-    records.chunks_exact(RECORD).position(matches)
+/// The number of the first record that matches.
+pub fn lookup_packed(bytes: &[u8], h: &Header) -> Option<usize> {
+    records(bytes).iter().position(|r| holds_all(r, h))
 }

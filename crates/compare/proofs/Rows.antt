@@ -1,7 +1,7 @@
 -- The checks of two files in their order, each said of its file.
 -- Assumes nothing.
 use Prim.Native.Nat.{ℕ, _-_}
-use mathlib.Core.Path.{_≡_, refl, sym, _∙_, ap, ap₂}
+use mathlib.Core.Path.{_≡_, refl, sym, _∙_, ap, ap₂, subst}
 use mathlib.Core.List.{List, [], _∷_, _++_, map, append-nil}
 use mathlib.Core.Option.{Option, none, some}
 use lib.ListN.{length, take, drop}
@@ -9,6 +9,8 @@ use Rattle.policy.specs.declared.header.Header.{Header}
 use Rattle.policy.specs.declared.header.Found.{Found}
 use Rattle.policy.specs.declared.header.Found.the-variants.{At, Nothing}
 use Rattle.policy.specs.declared.refusal.Refusal.{Refusal}
+use Rattle.policy.specs.Header.{headers}
+use Rattle.policy.specs.Policy.{Covering}
 use Rattle.policy.specs.Refusals.{Answer, refusal, accepted, firstOf}
 use Rattle.policy.proofs.Rows.{Pass, refusal-clash}
 use Rattle.wire.specs.declared.check.Checked.{Checked}
@@ -45,6 +47,12 @@ module _ (s t : List ℕ) where
     unfolding comparisonOf
     second-decides =
         sym (passed-first 1 (listChecks s listLimit) (map (about 2) (listChecks t listLimit)) (verdict (excessOf (listIn s) (listIn t))) (good-passes s listLimit r n e g))
+
+    -- the second list is covering, as least_excess needs it
+    pub second-covers : (q : Checked) (m : ℕ) → checked q ≡ listChecksOf t listLimit → q ≡ Good m → Covering headers (recordsIn (take (length t - headSize) (drop headSize t)))
+    second-covers q m f h =
+        let g = passes-tell t listLimit (good-passes t listLimit q m f h) in
+        subst (Covering headers) (sym (lent-records t listLimit (countIn t) (g .good))) (g .covering)
 
     pub second-refused : (q : Checked) (x : Refusal) → checked q ≡ listChecksOf t listLimit → q ≡ Refused x → compared (Second x) ≡ comparisonOf s t
     unfolding listChecksOf

@@ -18,11 +18,13 @@ use Rattle.policy.specs.Header.{arity, fields, Box, lies, ranges, everything, H
 use Rattle.policy.specs.Found.{lesser}
 use Rattle.policy.specs.Least.{leastIn}
 use Rattle.policy.specs.Entry.{selector}
-use Rattle.policy.specs.Policy.{allowed, missed, exceeds}
+use Rattle.policy.specs.Policy.{Allowed, actions, uncaught, allowed, isCaught, missed, exceeds, Covering}
+use Rattle.policy.proofs.Bool.{clash}
 use Rattle.policy.proofs.Box.{meet-is}
 use Rattle.policy.proofs.Least.{agree, lesser-assoc, lesser-comm, lesser-last}
 use Rattle.wire.specs.Format.{recordSize, entryAt, entriesFrom}
 use Rattle.wire.proofs.Entries.{length-entries, entries-at, entries-split}
+use Rattle.region.specs.declared.treated.Sets.{Sets}
 use Rattle.region.specs.declared.treated.Sets.the-variants.{Lacking}
 use Rattle.region.specs.Records.{recordsIn}
 use Rattle.region.specs.Treated.{judged}
@@ -35,6 +37,18 @@ use Rattle.compare.specs.Comparison.{excessOf}
 everywhere : (hs : Headers) (b : Box) (P : Header → Bool) → leastIn hs (meet arity everything b) P ≡ leastIn hs b P
 unfolding leastIn
 everywhere hs b P = agree hs (λ h. lies (meet arity everything b) h && P h) (λ h. lies b h && P h) λ h a. ap (_&& P h) (meet-is arity everything b (fields h) ∙ ap (_&& lies b h) (in-everything hs h a))
+
+-- a covering list leaves no header to whether uncaught ones are wanted
+covered : (hs : Headers) (p front : List Entry) (b : Box) (q : Sets) → Covering hs p
+    → leastIn hs b (λ h. missed front h && judged q false (allowed p h)) ≡ leastIn hs b (λ h. missed front h && judged q true (allowed p h))
+unfolding leastIn
+covered hs p front b q c =
+    agree hs (λ h. lies b h && (missed front h && judged q false (allowed p h))) (λ h. lies b h && (missed front h && judged q true (allowed p h)))
+    λ h a. ap (λ (t : Bool). lies b h && (missed front h && t)) (go (allowed p h) (c h a))
+  where
+    go : (a : Allowed) → isCaught a ≡ true → judged q false a ≡ judged q true a
+    go (actions s) e = refl
+    go uncaught e = clash e refl
 
 module _ (s t : List ℕ) where
   -- what is left to be found behind the first i records of the first list
@@ -51,9 +65,10 @@ module _ (s t : List ℕ) where
 
   pub found-next : (found r : Found) (i set : ℕ) (sel : Region) → i < length s / recordSize → FoundUpTo found i
       → ranges sel ≡ selector (entryAt s (recordSize * i)) → set ≡ entryAt s (recordSize * i) .actions
-      → r ≡ lesser (leastIn headers (ranges sel) (λ h. missed (recordsIn (take (recordSize * i - 0) s)) h && judged (Lacking set) true (allowed (recordsIn t) h))) found
+      → Covering headers (recordsIn t)
+      → r ≡ lesser (leastIn headers (ranges sel) (λ h. missed (recordsIn (take (recordSize * i - 0) s)) h && judged (Lacking set) false (allowed (recordsIn t) h))) found
       → FoundUpTo r (i + 1)
-  found-next found r i set sel l e u v f =
+  found-next found r i set sel l e u v k f =
       e
       ∙ ap (λ (c : Found). lesser c found)
       (ap (λ (p : List Entry). leastIn headers everything (λ h. missed (take i (recordsIn s)) h && exceeds p (recordsIn t) h)) suffix
@@ -100,8 +115,8 @@ module _ (s t : List ℕ) where
           parts : (n : ℕ) → i < n → n ≡ i + (n - i)
           parts n l = omega arith
 
-      same : leastIn headers (ranges sel) (λ h. missed (recordsIn (take (recordSize * i - 0) s)) h && judged (Lacking set) true (allowed (recordsIn t) h)) ≡ own
-      same = ap₂ (λ (b : Box) (P : Header → Bool). leastIn headers b P) u
+      same : leastIn headers (ranges sel) (λ h. missed (recordsIn (take (recordSize * i - 0) s)) h && judged (Lacking set) false (allowed (recordsIn t) h)) ≡ own
+      same = covered headers (recordsIn t) (recordsIn (take (recordSize * i - 0) s)) (ranges sel) (Lacking set) k ∙ ap₂ (λ (b : Box) (P : Header → Bool). leastIn headers b P) u
           (fun-ext λ h. ap₂ (λ (p : List Entry) (n : ℕ). missed p h && judged (Lacking n) true (allowed (recordsIn t) h)) (firsts-in s i (recordSize * i - 0) (small (length s / recordSize) l) (no-start (recordSize * i)) ∙ first) v)
 
   pub found-all : (found : Found) (i : ℕ) → length s / recordSize ≤ i → FoundUpTo found i → found ≡ excessOf (recordsIn s) (recordsIn t)

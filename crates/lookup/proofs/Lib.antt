@@ -1,4 +1,3 @@
-pub mod Within
 pub mod FirstMatch
 pub mod PackedMatch
 pub mod FileLookup

@@ -1,68 +1,35 @@
-// First match among packed records. A record is read field by field, as far as the first field that misses.
+// First match among packed records.
 use policy::entry::Caught;
 use policy::header::Header;
 use wire::format::RECORD_SIZE;
-use wire::number::read2;
-use wire::number::read4;
+use wire::holds::within1;
+use wire::holds::within2;
+use wire::holds::within4;
 ghost use mathlib.Core.Path.{_≡_};
 ghost use Prim.Native.Nat.{_+_, _*_, _≤_, _<_};
-ghost use lib.ListN.{length, getD};
-ghost use Rattle.policy.specs.Box.{range, within};
+ghost use lib.ListN.{length};
 ghost use Rattle.policy.specs.Entry.{matches};
 ghost use Rattle.policy.specs.Policy.{catcher};
-ghost use Rattle.wire.specs.Format.{number2, number4, entryAt, entriesFrom, recordSize};
+ghost use Rattle.wire.specs.Format.{entryAt, entriesFrom, recordSize};
 
-// Whether x is in the range whose low and high, of 4 bytes each, stand at two places.
-fn address_within(s: &[u8], low: usize, high: usize, x: u32) -> bool
-    requires { ⌜ (low + 4 ≤ length (now s)) × (high + 4 ≤ length (now s)) ⌝ }
-    ensures { λ r. ⌜ r ≡ within (range (number4 (now (s .entry)) low) (number4 (now (s .entry)) high)) x ⌝ }
-{
-    if x < read4(s, low) {
-        return false;
-    }
-    x <= read4(s, high)
-}
-
-// The same of 2 bytes each.
-fn port_within(s: &[u8], low: usize, high: usize, x: u16) -> bool
-    requires { ⌜ (low + 2 ≤ length (now s)) × (high + 2 ≤ length (now s)) ⌝ }
-    ensures { λ r. ⌜ r ≡ within (range (number2 (now (s .entry)) low) (number2 (now (s .entry)) high)) x ⌝ }
-{
-    if x < read2(s, low) {
-        return false;
-    }
-    x <= read2(s, high)
-}
-
-// The same of a byte each.
-fn protocol_within(s: &[u8], low: usize, high: usize, x: u8) -> bool
-    requires { ⌜ (low < length (now s)) × (high < length (now s)) ⌝ }
-    ensures { λ r. ⌜ r ≡ within (range (getD (now (s .entry)) low 0) (getD (now (s .entry)) high 0)) x ⌝ }
-{
-    if x < s[low] {
-        return false;
-    }
-    x <= s[high]
-}
-
-// Whether the record at a place matches h.
-pub(crate) fn record_matches(s: &[u8], at: usize, h: Header) -> bool
+// Whether the record at a place matches h. It is read field by field, as far as the first that misses.
+fn record_matches(s: &[u8], at: usize, h: Header) -> bool
     requires { ⌜ at + recordSize ≤ length (now s) ⌝ }
     ensures { λ r. ⌜ r ≡ matches (entryAt (now (s .entry)) at) h ⌝ }
 {
-    if !address_within(s, at, at + 4, h.local) {
+    if !within4(s, at, at + 4, h.local) {
         return false;
     }
-    if !address_within(s, at + 8, at + 12, h.remote) {
+    if !within4(s, at + 8, at + 12, h.remote) {
         return false;
     }
-    if !port_within(s, at + 16, at + 18, h.local_port) {
+    if !within2(s, at + 16, at + 18, h.local_port as u32) {
         return false;
     }
-    if !port_within(s, at + 20, at + 22, h.remote_port) {
+    if !within2(s, at + 20, at + 22, h.remote_port as u32) {
         return false;
     }
-    protocol_within(s, at + 24, at + 25, h.protocol)
+    within1(s, at + 24, at + 25, h.protocol as u32)
 }
 
 // The first of n records, from a place on, that matches h.

@@ -12,7 +12,7 @@ use Rattle.policy.specs.declared.header.Found.{Found}
 use Rattle.policy.specs.declared.header.Found.the-variants.{At, Nothing}
 use Rattle.policy.specs.declared.entry.Entry.{Entry}
 use Rattle.policy.specs.Row.{Row}
-use Rattle.policy.specs.Box.{meet}
+use Rattle.policy.specs.Box.{proper, meet}
 use Rattle.policy.specs.Header.{arity, fields, header, before, Box, Headers}
 use Rattle.policy.specs.Found.{lesser}
 use Rattle.policy.specs.Least.{leastIn}
@@ -30,6 +30,7 @@ use Rattle.region.specs.Records.{recordsIn}
 use Rattle.region.specs.Corner.{improves}
 use Rattle.region.specs.Treated.{wanted}
 use Rattle.region.specs.Search.{foundAnswer}
+use Rattle.region.proofs.Steps.{found-crossed}
 use Rattle.region.proofs.Uses.{leftIn, judged-wanted, judged-passed, judged-end, judged-exhausted}
 
 -- ---- is_wanted
@@ -136,7 +137,7 @@ module _ (hs : Headers) (x : Box) (q : Sets) (d : Bool) (front : List Entry) (s 
       all n = omega arith
 
   -- one entry more
-  pub left-again : (i at : ℕ) (found new : Found) → i < length s / recordSize → at ≡ recordSize * i
+  left-again : (i at : ℕ) (found new : Found) → i < length s / recordSize → at ≡ recordSize * i
       → new ≡ lesser (cond (wanted q (entryAt s at .actions)) (leastIn hs (meet arity x (selector (entryAt s at))) (missed (front ++ recordsIn (take at s)))) Nothing) found
       → lesser (Left hs x q d front s i) found ≡ lesser (Left hs x q d front s (i + 1)) new
   left-again i at found new l e n =
@@ -170,6 +171,18 @@ module _ (hs : Headers) (x : Box) (q : Sets) (d : Bool) (front : List Entry) (s 
           judged-passed hs x q d (mask i) (entryAt s (recordSize * i)) (from s (i + 1)) found w
           ∙ ap (λ (t : Bool). lesser (leftIn hs x q d (mask i ++ entryAt s (recordSize * i) ∷ []) (from s (i + 1))) (lesser (cond t (leastIn hs (meet arity x (selector (entryAt s (recordSize * i)))) (missed (mask i))) Nothing) found)) (sym w)
 
+  -- its set is wanted, and it was searched; or its set is not
+  module _ (i at : ℕ) (found : Found) (a : ℕ) (t : Bool) (l : i < length s / recordSize) (e : at ≡ recordSize * i) (u : a ≡ entryAt s at .actions) (w : t ≡ wanted q a) where
+    abbrev part : Found
+    part = leastIn hs (meet arity x (selector (entryAt s at))) (missed (front ++ recordsIn (take at s)))
+
+    pub left-searched : (new : Found) → t ≡ true → new ≡ lesser (leastIn hs (meet arity x (selector (entryAt s at))) (missed (front ++ recordsIn (take at s)))) found
+        → lesser (Left hs x q d front s i) found ≡ lesser (Left hs x q d front s (i + 1)) new
+    left-searched new y n = left-again i at found new l e (n ∙ ap (λ (t : Bool). lesser (cond t part Nothing) found) (sym y ∙ w ∙ ap (wanted q) u))
+
+    pub left-passed : t ≡ false → lesser (Left hs x q d front s i) found ≡ lesser (Left hs x q d front s (i + 1)) found
+    left-passed n = left-again i at found found l e (ap (λ (t : Bool). lesser (cond t part Nothing) found) (sym n ∙ w ∙ ap (wanted q) u))
+
   -- nothing is left
   pub left-exhausted : (i at : ℕ) (found : Found) → i < length s / recordSize → at ≡ recordSize * i
       → lesser (leastIn hs x (missed (front ++ recordsIn (take at s)))) found ≡ found → found ≡ lesser (Left hs x q d front s i) found
@@ -196,22 +209,29 @@ module _ (hs : Headers) (x : Box) (q : Sets) (d : Bool) (front : List Entry) (s 
   pub left-none : (i : ℕ) (found : Found) → i ≤ length s / recordSize → length s / recordSize ≤ i → d ≡ false → found ≡ lesser (Left hs x q d front s i) found
   left-none i found l m t = ap (λ (f : Found). lesser f found) (sym (left-end i (omega arith) ∙ ap (λ (t : Bool). cond t (leastIn hs x (missed (front ++ recordsIn s))) Nothing) t))
 
+-- ---- least_treated_behind
+
+-- the front alone leaves nothing
+pub front-exhausts : (hs : Headers) (x : Box) (q : Sets) (d : Bool) (front p : List Entry) (best : Found) (t : Bool) → t ≡ true
+    → (t ≡ true → lesser (leastIn hs x (missed (front ++ []))) best ≡ best) → best ≡ lesser (leftIn hs x q d front p) best
+front-exhausts hs x q d front p best t e f =
+    sym (judged-exhausted hs x q d front p best (ap (λ (es : List Entry). lesser (leastIn hs x (missed es)) best) (sym (append-nil front)) ∙ f e))
+
 -- ---- with_entry
 
-module _ (hs : Headers) (s : List ℕ) (at : ℕ) (front : List Entry) (x : Box) (q : Sets) (a : ℕ) (t : Bool) (best : Found) where
-  pub entry-taken : (p r : Box) (found : Found) (n : ℕ) → n ≡ at → a ≡ entryAt s at .actions → t ≡ wanted q a → t ≡ true → r ≡ selector (entryAt s at) → p ≡ meet arity x r
-      → found ≡ lesser (leastIn hs p (missed (front ++ recordsIn (take n s)))) best
-      → found ≡ lesser (cond (wanted q (entryAt s at .actions)) (leastIn hs (meet arity x (selector (entryAt s at))) (missed (front ++ recordsIn (take at s)))) Nothing) best
-  entry-taken p r found n k e w y i m f =
-      f
-      ∙ ap (λ (n : ℕ). lesser (leastIn hs p (missed (front ++ recordsIn (take n s)))) best) k
-      ∙ ap (λ (p : Box). lesser (leastIn hs p (missed (front ++ recordsIn (take at s)))) best) (m ∙ ap (meet arity x) i)
-      ∙ ap (λ (t : Bool). lesser (cond t (leastIn hs (meet arity x (selector (entryAt s at))) (missed (front ++ recordsIn (take at s)))) Nothing) best) (sym y ∙ w ∙ ap (wanted q) e)
+pub entry-part : (hs : Headers) (s : List ℕ) (at n : ℕ) (front : List Entry) (x p r : Box) (best found : Found) → n ≡ at → r ≡ selector (entryAt s at) → p ≡ meet arity x r
+    → found ≡ lesser (leastIn hs p (missed (front ++ recordsIn (take n s)))) best
+    → found ≡ lesser (leastIn hs (meet arity x (selector (entryAt s at))) (missed (front ++ recordsIn (take at s)))) best
+entry-part hs s at n front x p r best found k i m f =
+    f
+    ∙ ap (λ (n : ℕ). lesser (leastIn hs p (missed (front ++ recordsIn (take n s)))) best) k
+    ∙ ap (λ (p : Box). lesser (leastIn hs p (missed (front ++ recordsIn (take at s)))) best) (m ∙ ap (meet arity x) i)
 
-  pub entry-passed : a ≡ entryAt s at .actions → t ≡ wanted q a → t ≡ false
-      → best ≡ lesser (cond (wanted q (entryAt s at .actions)) (leastIn hs (meet arity x (selector (entryAt s at))) (missed (front ++ recordsIn (take at s)))) Nothing) best
-  entry-passed e w n =
-      ap (λ (t : Bool). lesser (cond t (leastIn hs (meet arity x (selector (entryAt s at))) (missed (front ++ recordsIn (take at s)))) Nothing) best) (sym n ∙ w ∙ ap (wanted q) e)
+-- the selector has no header in common with the box
+pub entry-apart : (hs : Headers) (s : List ℕ) (at : ℕ) (front : List Entry) (x p r : Box) (best : Found) (t : Bool) → r ≡ selector (entryAt s at) → p ≡ meet arity x r
+    → t ≡ proper arity p → not t ≡ true → best ≡ lesser (leastIn hs (meet arity x (selector (entryAt s at))) (missed (front ++ recordsIn (take at s)))) best
+entry-apart hs s at front x p r best t i m e n =
+    found-crossed hs (front ++ recordsIn (take at s)) (meet arity x (selector (entryAt s at))) best t (e ∙ ap (proper arity) (m ∙ ap (meet arity x) i)) (not-true n)
 
 -- ---- a search's answer
 

@@ -1,9 +1,10 @@
 -- The low corner of a box: which record holds it, and how many records meet the box.
-use Prim.Native.Nat.{ℕ, _+_}
+use Prim.Native.Nat.{ℕ, _+_, _*_, _/_, _≤_, _<_}
 use mathlib.Core.Path.{_≡_}
 use mathlib.Core.Logic.{_⊎_}
 use mathlib.Core.Bool.{Bool, true, false, cond}
 use mathlib.Core.List.{List, [], _∷_}
+use lib.ListN.{length}
 use Rattle.policy.specs.declared.header.Header.{Header}
 use Rattle.policy.specs.declared.header.Found.{Found}
 use Rattle.policy.specs.declared.header.Found.the-variants.{At, Nothing}
@@ -12,6 +13,8 @@ use Rattle.policy.specs.Box.{inside, proper, lows, meet}
 use Rattle.policy.specs.Header.{arity, header, before, Box, lies, Headers, among, ranges}
 use Rattle.policy.specs.Entry.{selector}
 use Rattle.policy.specs.Policy.{missed}
+use Rattle.wire.specs.Format.{recordSize, entryAt}
+use Rattle.region.specs.Records.{recordsIn}
 use Rattle.region.specs.declared.pick.Picked.{Picked}
 use Rattle.region.specs.declared.pick.Picked.the-variants.{Held, Free}
 
@@ -38,12 +41,15 @@ abbrev pub Picks : List Entry → Box → Picked → Type 0
 Picks es b (Held s) = (holds (ranges s) b ≡ true) × OneOf (ranges s) es
 Picks es b Free = missed es (header (lows arity b)) ≡ true
 
--- the selector s where the test holds, and nothing elsewhere
-abbrev pub HeldIf : Bool → Box → Picked → Type 0
-HeldIf true s (Held r) = ranges r ≡ s
-HeldIf true s Free = ⊥
-HeldIf false s (Held r) = ⊥
-HeldIf false s Free = Unit {0}
+-- record number i of the slice holds the low corner of b; where there is no such number, no record does
+abbrev pub Chooses : List ℕ → Box → ℕ → Type 0
+Chooses s b i =
+    (i < length s / recordSize → holds (selector (entryAt s (recordSize * i))) b ≡ true)
+    × (length s / recordSize ≤ i → missed (recordsIn s) (header (lows arity b)) ≡ true)
+
+-- number i is taken, or the old choice stays, if it is one among n
+abbrev pub Better : ℕ → ℕ → ℕ → ℕ → Type 0
+Better i n old new = (new ≡ i) ⊎ ((new ≡ old) × (old < n))
 
 -- one of two picks, and free only if both are
 abbrev pub Either : Picked → Picked → Picked → Type 0

@@ -2,19 +2,23 @@
 use policy::region::Range;
 use policy::region::Region;
 use wire::format::RECORD_SIZE;
+use wire::holds::within1;
+use wire::holds::within2;
+use wire::holds::within4;
+use wire::number::read1;
 use wire::number::read2;
 use wire::number::read4;
 use wire::record::read_selector;
 ghost use mathlib.Core.Path.{_≡_};
+ghost use mathlib.Core.Bool.{true};
 ghost use mathlib.Core.List.{_++_};
-ghost use Prim.Native.Nat.{_+_, _≤_};
-ghost use lib.ListN.{length, getD};
-ghost use Rattle.policy.specs.Box.{range, within};
+ghost use Prim.Native.Nat.{_+_, _*_, _/_, _≤_, _<_};
+ghost use lib.ListN.{length};
 ghost use Rattle.policy.specs.Header.{ranges};
 ghost use Rattle.policy.specs.Entry.{selector};
-ghost use Rattle.wire.specs.Format.{recordSize, number2, number4, entryAt};
+ghost use Rattle.wire.specs.Format.{recordSize, entryAt};
 ghost use Rattle.region.specs.Records.{recordsIn};
-ghost use Rattle.region.specs.Corner.{holds, Picks, HeldIf, Either};
+ghost use Rattle.region.specs.Corner.{holds, Picks, Chooses, Better, Either};
 
 // The selector of a record that holds a corner, or no record holds it.
 pub enum Picked {
@@ -22,46 +26,13 @@ pub enum Picked {
     Free,
 }
 
-// The byte at a place.
-fn read1(s: &[u8], at: usize) -> u32
-    requires { ⌜ at + 1 ≤ length (now s) ⌝ }
-    ensures { λ r. ⌜ r ≡ getD (now (s .entry)) at 0 ⌝ }
-{
-    s[at] as u32
+// The number of a record that holds a corner, with its weight; or the number of records, if none does.
+pub struct Choice {
+    pub number: usize,
+    pub weight: f64,
 }
 
-// Whether x is in the range whose low and high stand at two places, as numbers of 4, 2 and 1 bytes. Reads no more than it must.
-fn within4(s: &[u8], low: usize, high: usize, x: u32) -> bool
-    requires { ⌜ (low + 4 ≤ length (now s)) × (high + 4 ≤ length (now s)) ⌝ }
-    ensures { λ t. ⌜ t ≡ within (range (number4 (now (s .entry)) low) (number4 (now (s .entry)) high)) x ⌝ }
-{
-    if x < read4(s, low) {
-        return false;
-    }
-    x <= read4(s, high)
-}
-
-fn within2(s: &[u8], low: usize, high: usize, x: u32) -> bool
-    requires { ⌜ (low + 2 ≤ length (now s)) × (high + 2 ≤ length (now s)) ⌝ }
-    ensures { λ t. ⌜ t ≡ within (range (number2 (now (s .entry)) low) (number2 (now (s .entry)) high)) x ⌝ }
-{
-    if x < read2(s, low) as u32 {
-        return false;
-    }
-    x <= read2(s, high) as u32
-}
-
-fn within1(s: &[u8], low: usize, high: usize, x: u32) -> bool
-    requires { ⌜ (low + 1 ≤ length (now s)) × (high + 1 ≤ length (now s)) ⌝ }
-    ensures { λ t. ⌜ t ≡ within (range (getD (now (s .entry)) low 0) (getD (now (s .entry)) high 0)) x ⌝ }
-{
-    if x < read1(s, low) {
-        return false;
-    }
-    x <= read1(s, high)
-}
-
-// Whether the record at a place holds the low corner of b.
+// Whether the record at a place holds the low corner of b. It is read field by field, as far as the first that misses.
 fn holds_corner(s: &[u8], at: usize, b: Region) -> bool
     requires { ⌜ at + recordSize ≤ length (now s) ⌝ }
     ensures { λ t. ⌜ t ≡ holds (selector (entryAt (now (s .entry)) at)) (ranges b) ⌝ }
@@ -81,36 +52,97 @@ fn holds_corner(s: &[u8], at: usize, b: Region) -> bool
     within1(s, at + 24, at + 25, b.protocol.low)
 }
 
-// The selector of the record at a place, if it holds the low corner of b.
-fn offered(s: &[u8], at: usize, b: Region) -> Picked
+// How many numbers of the range b come up to an end, if b goes past it. A record that reaches the end of b weighs more: it leaves nothing above it.
+fn width(b: Range, end: u32) -> f64 {
+    if end < b.high {
+        return std::num::wrapping_sub_u32(end, b.low) as f64 + 1.0;
+    }
+    (std::num::wrapping_sub_u32(b.high, b.low) as f64 + 1.0) * 16.0
+}
+
+// How much of b lies in the record at a place, which holds its low corner. The weights matter to the speed alone.
+fn weight(s: &[u8], at: usize, b: Region) -> f64
     requires { ⌜ at + recordSize ≤ length (now s) ⌝ }
-    ensures { λ r. ⌜ HeldIf (holds (selector (entryAt (now (s .entry)) at)) (ranges b)) (selector (entryAt (now (s .entry)) at)) r ⌝ }
 {
-    if holds_corner(s, at, b) {
-        return Picked::Held(read_selector(s, at));
+    width(b.local, read4(s, at + 4))
+        * width(b.remote, read4(s, at + 12))
+        * width(b.local_port, read2(s, at + 18) as u32)
+        * width(b.remote_port, read2(s, at + 22) as u32)
+        * width(b.protocol, read1(s, at + 25))
+}
+
+// The weight of a record that holds all of b.
+fn full_weight(b: Region) -> f64 {
+    width(b.local, b.local.high)
+        * width(b.remote, b.remote.high)
+        * width(b.local_port, b.local_port.high)
+        * width(b.remote_port, b.remote_port.high)
+        * width(b.protocol, b.protocol.high)
+}
+
+// The better of a choice among n records and record number i, which holds the corner.
+fn better(s: &[u8], i: usize, n: usize, b: Region, c: Choice) -> Choice
+    requires { ⌜ recordSize * (i + 1) ≤ length (now s) ⌝ }
+    ensures { λ r. ⌜ Better i n (c .number) (r .number) ⌝ }
+{
+    let w = weight(s, RECORD_SIZE * i, b);
+    if c.number < n {
+        if w <= c.weight {
+            return c;
+        }
+    }
+    Choice {
+        number: i,
+        weight: w,
+    }
+}
+
+// Whether a choice among n records has a weight that none exceeds.
+fn is_full(c: Choice, n: usize, full: f64) -> bool
+    ensures { λ t. ⌜ (t ≡ true → c .number < n) ⌝ }
+{
+    if c.number < n {
+        return full <= c.weight;
+    }
+    false
+}
+
+// A record of s that holds the low corner of b, from the last to the first, as far as one of full weight.
+fn choose(s: &[u8], b: Region, full: f64) -> Choice
+    ensures { λ r. ⌜ Chooses (now (s .entry)) (ranges b) (r .number) ⌝ }
+{
+    let n = s.len() / RECORD_SIZE;
+    let mut best = Choice {
+        number: n,
+        weight: 0.0,
+    };
+    let mut i = n;
+    while 0 < i {
+        i -= 1;
+        if !holds_corner(s, RECORD_SIZE * i, b) {
+            continue;
+        }
+        best = better(s, i, n, b, best);
+        if is_full(best, n, full) {
+            return best;
+        }
+    }
+    best
+}
+
+// A choice, read.
+fn chosen(s: &[u8], b: Region, c: Choice) -> Picked
+    requires { ⌜ Chooses (now s) (ranges b) (c .number) ⌝ }
+    ensures { λ r. ⌜ Picks (recordsIn (now (s .entry))) (ranges b) r ⌝ }
+{
+    if c.number < s.len() / RECORD_SIZE {
+        return Picked::Held(read_selector(s, RECORD_SIZE * c.number));
     }
     Picked::Free
 }
 
-// How many numbers of the range b come up to the end of s.
-fn width(b: Range, s: Range) -> f64 {
-    if s.high < b.high {
-        return std::num::wrapping_sub_u32(s.high, b.low) as f64 + 1.0;
-    }
-    std::num::wrapping_sub_u32(b.high, b.low) as f64 + 1.0
-}
-
-// How much of b lies in s, which holds its low corner.
-fn volume(b: Region, s: Region) -> f64 {
-    width(b.local, s.local)
-        * width(b.remote, s.remote)
-        * width(b.local_port, s.local_port)
-        * width(b.remote_port, s.remote_port)
-        * width(b.protocol, s.protocol)
-}
-
-// The pick that holds more of b. Which one is taken matters to the speed alone.
-fn larger(b: Region, c: Picked, d: Picked) -> Picked
+// The first of two picks if it is one and is wanted, and else the second.
+fn either(c: Picked, d: Picked, first: bool) -> Picked
     ensures { λ r. ⌜ Either c d r ⌝ }
 {
     match c {
@@ -118,7 +150,7 @@ fn larger(b: Region, c: Picked, d: Picked) -> Picked
         Picked::Held(s) => match d {
             Picked::Free => Picked::Held(s),
             Picked::Held(u) => {
-                if volume(b, u) < volume(b, s) {
+                if first {
                     Picked::Held(s)
                 } else {
                     Picked::Held(u)
@@ -128,22 +160,15 @@ fn larger(b: Region, c: Picked, d: Picked) -> Picked
     }
 }
 
-// A record of s that holds the low corner of b.
-fn pick(s: &[u8], b: Region) -> Picked
-    ensures { λ r. ⌜ Picks (recordsIn (now (s .entry))) (ranges b) r ⌝ }
-{
-    let mut best = Picked::Free;
-    let mut i = s.len() / RECORD_SIZE;
-    while 0 < i {
-        i -= 1;
-        best = larger(b, offered(s, RECORD_SIZE * i, b), best);
-    }
-    best
-}
-
 // A record of one of two lists that holds the low corner of x.
 pub(crate) fn pick_of_two(a: &[u8], b: &[u8], x: Region) -> Picked
     ensures { λ r. ⌜ Picks (recordsIn (now (a .entry)) ++ recordsIn (now (b .entry))) (ranges x) r ⌝ }
 {
-    larger(x, pick(a, x), pick(b, x))
+    let full = full_weight(x);
+    let c = choose(a, x, full);
+    if is_full(c, a.len() / RECORD_SIZE, full) {
+        return Picked::Held(read_selector(a, RECORD_SIZE * c.number));
+    }
+    let d = choose(b, x, full);
+    either(chosen(a, x, c), chosen(b, x, d), d.weight < c.weight)
 }

@@ -2,7 +2,6 @@
 use crate::cut::Ranks;
 use policy::region::Range;
 use policy::region::Region;
-use std::num::wrapping_add_u32;
 use wire::format::RECORD_SIZE;
 use wire::record::read_addresses;
 use wire::record::read_ports;
@@ -31,6 +30,11 @@ fn overlaps(r: Range, s: Range) -> bool {
     r.low <= s.high
 }
 
+// The sum of two counts, modulo 2^32.
+fn sum(a: u32, b: u32) -> u32 {
+    ((a as u64 + b as u64) % 4294967296) as u32
+}
+
 // The counts with the cuts that the record at a place crosses, if it meets x.
 fn with_record(s: &[u8], at: usize, x: Region, cut: Region, n: Ranks) -> Ranks
     requires { ⌜ at + recordSize ≤ length (now s) ⌝ }
@@ -56,11 +60,11 @@ fn with_record(s: &[u8], at: usize, x: Region, cut: Region, n: Ranks) -> Ranks
         return n;
     }
     Ranks {
-        local: wrapping_add_u32(n.local, crosses(local, cut.local)),
-        remote: wrapping_add_u32(n.remote, crosses(remote, cut.remote)),
-        local_port: wrapping_add_u32(n.local_port, crosses(local_port, cut.local_port)),
-        remote_port: wrapping_add_u32(n.remote_port, crosses(remote_port, cut.remote_port)),
-        protocol: wrapping_add_u32(n.protocol, crosses(protocol, cut.protocol)),
+        local: sum(n.local, crosses(local, cut.local)),
+        remote: sum(n.remote, crosses(remote, cut.remote)),
+        local_port: sum(n.local_port, crosses(local_port, cut.local_port)),
+        remote_port: sum(n.remote_port, crosses(remote_port, cut.remote_port)),
+        protocol: sum(n.protocol, crosses(protocol, cut.protocol)),
     }
 }
 

@@ -5,15 +5,16 @@ use policy::actions::is_subset;
 use policy::header::Found;
 use policy::region::Region;
 use policy::region::inside_part;
+use policy::region::is_proper;
+use std::num::wrapping_add_u32;
 use wire::format::RECORD_SIZE;
 use wire::record::read_actions;
 use wire::record::read_selector;
 ghost use mathlib.Core.Path.{_≡_};
-ghost use mathlib.Core.Bool.{true, cond, _&&_};
+ghost use mathlib.Core.Bool.{true, _&&_};
 ghost use Prim.Native.Nat.{_+_, _≤_};
 ghost use lib.ListN.{length, take};
 ghost use mathlib.Core.List.{_++_};
-ghost use Rattle.policy.specs.declared.header.Found.the-variants.{Nothing};
 ghost use Rattle.policy.specs.Box.{meet};
 ghost use Rattle.policy.specs.Header.{arity, ranges, headers};
 ghost use Rattle.policy.specs.Entry.{selector};
@@ -55,33 +56,28 @@ pub(crate) fn is_exhausted(a: &[u8], b: &[u8], x: Region, best: Found) -> bool
     }
 }
 
-// The same, asked at every sixteenth entry. How often it is asked matters to the speed alone.
-fn is_done(a: &[u8], b: &[u8], i: usize, x: Region, best: Found) -> bool
+// The same, asked after 4, 8, 16, .. searches. How often it is asked matters to the speed alone.
+fn is_done(a: &[u8], b: &[u8], searches: u32, x: Region, best: Found) -> bool
     ensures { λ t. ⌜ (t ≡ true → lesser (leastIn headers (ranges x) (missed (recordsIn (now (a .entry)) ++ recordsIn (now (b .entry))))) best ≡ best) ⌝ }
 {
-    if i % 16 == 0 {
-        return is_exhausted(a, b, x, best);
+    if 4 <= searches {
+        if 128 % searches == 0 {
+            return is_exhausted(a, b, x, best);
+        }
     }
     false
 }
 
-// The lesser of best and the least header of x that is missed by front and by the records before the one at a place,
-// and that this one matches: if its set is wanted.
-fn with_entry(front: &[u8], records: &[u8], at: usize, x: Region, q: Sets, best: Found) -> Found
+// The lesser of best and the least header of x that is missed by front and by the records before the one at a place, and that this one matches.
+fn with_entry(front: &[u8], records: &[u8], at: usize, x: Region, best: Found) -> Found
     requires { ⌜ at + recordSize ≤ length (now records) ⌝ }
-    ensures { λ r. ⌜ r ≡ lesser (cond (wanted q (entryAt (now (records .entry)) at .actions))
-        (leastIn headers (meet arity (ranges x) (selector (entryAt (now (records .entry)) at))) (missed (recordsIn (now (front .entry)) ++ recordsIn (take at (now (records .entry))))))
-        Nothing) best ⌝ }
+    ensures { λ r. ⌜ r ≡ lesser (leastIn headers (meet arity (ranges x) (selector (entryAt (now (records .entry)) at))) (missed (recordsIn (now (front .entry)) ++ recordsIn (take at (now (records .entry)))))) best ⌝ }
 {
-    if is_wanted(q, read_actions(records, at)) {
-        return least_open(
-            front,
-            &records[0..at],
-            inside_part(x, read_selector(records, at)),
-            best,
-        );
+    let part = inside_part(x, read_selector(records, at));
+    if !is_proper(part) {
+        return best;
     }
-    best
+    least_open(front, &records[0..at], part, best)
 }
 
 // The lesser of best and the least header of x that no record of front matches, and that the list of records allows a wanted set;
@@ -98,17 +94,40 @@ pub fn least_treated(
 {
     let n = records.len() / RECORD_SIZE;
     let mut found = best;
+    let mut searches: u32 = 0;
     let mut i: usize = 0;
     while i < n {
         let at = RECORD_SIZE * i;
-        if is_done(front, &records[0..at], i, x, found) {
+        if !is_wanted(q, read_actions(records, at)) {
+            i += 1;
+            continue;
+        }
+        if is_done(front, &records[0..at], searches, x, found) {
             return found;
         }
-        found = with_entry(front, records, at, x, q, found);
+        found = with_entry(front, records, at, x, found);
+        searches = wrapping_add_u32(searches, 1);
         i += 1;
     }
     if uncaught {
         return least_open(front, records, x, found);
     }
     found
+}
+
+// The same, if front leaves anything of x that comes before best. For a box that is likely to be caught whole by the records of front.
+pub fn least_treated_behind(
+    front: &[u8],
+    records: &[u8],
+    x: Region,
+    q: Sets,
+    uncaught: bool,
+    best: Found,
+) -> Found
+    ensures { λ r. ⌜ r ≡ lesser (leastIn headers (ranges x) (λ h. missed (recordsIn (now (front .entry))) h && judged q uncaught (allowed (recordsIn (now (records .entry))) h))) best ⌝ }
+{
+    if is_exhausted(front, &records[0..0], x, best) {
+        return best;
+    }
+    least_treated(front, records, x, q, uncaught, best)
 }

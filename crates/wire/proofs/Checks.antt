@@ -16,7 +16,7 @@ use Rattle.policy.specs.declared.entry.Entry.{Entry}
 use Rattle.policy.specs.declared.refusal.Refusal.the-variants.{Missized, Version, Count, Crossed}
 use Rattle.policy.specs.Refusals.{Answer, refusal, accepted, refuse, firstOf}
 use Rattle.policy.specs.Box.{proper}
-use Rattle.policy.specs.Header.{arity, Box}
+use Rattle.policy.specs.Header.{arity}
 use Rattle.policy.specs.Entry.{selector, crossed}
 use Rattle.policy.proofs.Bool.{not-false, clash, or-left, or-right}
 use Rattle.wire.specs.Format.{version, headSize, recordSize, lengthIn, versionIn, countIn, entryAt, entriesFrom}
@@ -136,10 +136,10 @@ crossed-none p n e = rw e
 pub scanned-all : (p : List Entry) (n i : ℕ) → length p ≤ i → Scanned p i → accepted (n ∷ []) ≡ crossedOf p n
 scanned-all p n i l h = crossed-none p n (h ∙ ap (firstCrossedFrom i) (drop-of-length-le p l))
 
--- what the test of a record's selector says of the entry
-pub entry-crossed : (s : List ℕ) (n i : ℕ) (b : Box) (t u : Bool) → i < n → b ≡ selector (entryAt s (headSize + recordSize * i)) → t ≡ proper arity b → not t ≡ u
+-- what the test of a record says of the entry
+pub entry-crossed : (s : List ℕ) (n i : ℕ) (t u : Bool) → i < n → t ≡ proper arity (selector (entryAt s (headSize + recordSize * i))) → not t ≡ u
     → crossed (getD (entriesFrom s headSize n) i emptyEntry) ≡ u
-entry-crossed s n i b t u l p q r = ap crossed (entries-at s headSize n i emptyEntry l) ∙ sym (ap not (q ∙ ap (proper arity) p)) ∙ r
+entry-crossed s n i t u l q r = ap crossed (entries-at s headSize n i emptyEntry l) ∙ sym (ap not q) ∙ r
 
 -- the answer of the checks, by the first that refuses
 module _ (s : List ℕ) (limit : ℕ) where

@@ -1,7 +1,7 @@
-// Numbers of 2 and 4 bytes in a slice, the highest byte first.
+// Numbers of 1, 2 and 4 bytes in a slice, the highest byte first.
 ghost use mathlib.Core.Path.{_≡_};
 ghost use Prim.Native.Nat.{_+_, _*_, _≤_};
-ghost use lib.ListN.{length};
+ghost use lib.ListN.{length, getD};
 ghost use Rattle.wire.specs.Format.{number2, number4};
 
 fn join2(a: u8, b: u8) -> u16
@@ -14,6 +14,14 @@ fn join4(a: u8, b: u8, c: u8, d: u8) -> u32
     ensures { λ r. ⌜ r ≡ ((a * 256 + b) * 256 + c) * 256 + d ⌝ }
 {
     ((a as u32 * 256 + b as u32) * 256 + c as u32) * 256 + d as u32
+}
+
+// The byte at a place.
+pub fn read1(s: &[u8], at: usize) -> u32
+    requires { ⌜ at + 1 ≤ length (now s) ⌝ }
+    ensures { λ r. ⌜ r ≡ getD (now (s .entry)) at 0 ⌝ }
+{
+    s[at] as u32
 }
 
 // The number of 2 bytes at a place.

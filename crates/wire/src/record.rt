@@ -1,4 +1,5 @@
 // Records: an entry's 28 bytes.
+use crate::number::read1;
 use crate::number::read2;
 use crate::number::read4;
 use policy::entry::Entry;
@@ -34,21 +35,14 @@ pub fn read_ports(s: &[u8], at: usize) -> Range
     }
 }
 
-// A byte as a number of a range.
-fn wide(x: u8) -> u32
-    ensures { λ r. ⌜ r ≡ x ⌝ }
-{
-    x as u32
-}
-
 // The range of two bytes at a place.
 pub fn read_protocols(s: &[u8], at: usize) -> Range
     requires { ⌜ at + 2 ≤ length (now s) ⌝ }
     ensures { λ r. ⌜ r ≡ range (getD (now (s .entry)) at 0) (getD (now (s .entry)) (at + 1) 0) ⌝ }
 {
     Range {
-        low: wide(s[at]),
-        high: wide(s[at + 1]),
+        low: read1(s, at),
+        high: read1(s, at + 1),
     }
 }
 

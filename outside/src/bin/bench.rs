@@ -458,7 +458,7 @@ fn lookup_times(product: &Product, list: &List, headers: &[Header]) -> [Option<f
         assert!(headers.iter().zip(&answers).all(|(h, n)| lookup(bytes, h) == *n));
         move || sum(&|h| lookup(bytes, h))
     });
-    let mut rust = || sum(&|h| baseline::lookup(bytes, h));
+    let mut rust = || sum(&|h| baseline::lookup(std::hint::black_box(bytes), h));
     let mut part = product.part.map(|part| {
         assert!(headers.iter().all(|h| part(bytes, h) == 28));
         move || sum(&|h| part(bytes, h))

@@ -19,14 +19,14 @@ loop-holds c = (search needs, search found-none)
 mul-at : tie.Need-mul-at Inv-loop μ-loop
 mul-at c = search needs
 
-sub-least-treated : tie.Need-sub-least-treated Inv-loop μ-loop
-sub-least-treated c = search needs
+sub-least-treated-behind : tie.Need-sub-least-treated-behind Inv-loop μ-loop
+sub-least-treated-behind c = search needs
 
-part-least-treated-start : tie.Need-part-least-treated-start Inv-loop μ-loop
-part-least-treated-start c = search needs
+part-least-treated-behind-start : tie.Need-part-least-treated-behind-start Inv-loop μ-loop
+part-least-treated-behind-start c = search needs
 
-part-least-treated-end : tie.Need-part-least-treated-end Inv-loop μ-loop
-part-least-treated-end c = search needs
+part-least-treated-behind-end : tie.Need-part-least-treated-behind-end Inv-loop μ-loop
+part-least-treated-behind-end c = search needs
 
 read-selector-requires : tie.Need-read-selector-requires Inv-loop μ-loop
 read-selector-requires c κs = search needs
@@ -34,8 +34,8 @@ read-selector-requires c κs = search needs
 read-actions-requires : tie.Need-read-actions-requires Inv-loop μ-loop
 read-actions-requires c κs = search needs
 
-least-treated-requires : tie.Need-least-treated-requires Inv-loop μ-loop
-least-treated-requires c κs = search needs
+least-treated-behind-requires : tie.Need-least-treated-behind-requires Inv-loop μ-loop
+least-treated-behind-requires c κs = search needs
 
 add-i : tie.Need-add-i Inv-loop μ-loop
 add-i c = search needs
@@ -57,12 +57,12 @@ least-excess-spec =
     μ-loop
     loop-holds
     mul-at
-    sub-least-treated
-    part-least-treated-start
-    part-least-treated-end
+    sub-least-treated-behind
+    part-least-treated-behind-start
+    part-least-treated-behind-end
     read-selector-requires
     read-actions-requires
-    least-treated-requires
+    least-treated-behind-requires
     add-i
     loop-less
     loop-again

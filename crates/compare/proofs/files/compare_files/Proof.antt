@@ -1,7 +1,7 @@
 -- A refusal is said of its file; where both pass, the excess decides.
 -- Assumes nothing.
 use Rattle.region.proofs.ListChecks.{list-has-head}
-use Rattle.compare.proofs.Rows.{first-refused, second-refused, says-refines, says-exceeds}
+use Rattle.compare.proofs.Rows.{first-refused, second-covers, second-refused, says-refines, says-exceeds}
 use borrow.Author.Needs.{needs}
 use Rattle.compare.proofs.files.compare_files.Statement.{statement}
 use Rattle.compare.proofs.files.compare_files.Tie as tie
@@ -43,7 +43,7 @@ part-least-excess-end-2 : tie.Need-part-least-excess-end-2
 part-least-excess-end-2 c = search needs
 
 least-excess-requires : tie.Need-least-excess-requires
-least-excess-requires c κs = search needs
+least-excess-requires c κs = search second-covers
 
 enum-told-3 : tie.Need-enum-told-3
 enum-told-3 c = search needs

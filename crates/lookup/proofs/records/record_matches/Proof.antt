@@ -5,98 +5,110 @@ use borrow.Author.Needs.{needs}
 use Rattle.lookup.proofs.records.record_matches.Statement.{statement}
 use Rattle.lookup.proofs.records.record_matches.Tie as tie
 
-add-address-within : tie.Need-add-address-within
-add-address-within c = search needs
+add-within4 : tie.Need-add-within4
+add-within4 c = search needs
 
-address-within-requires : tie.Need-address-within-requires
-address-within-requires c κs = search needs
+within4-requires : tie.Need-within4-requires
+within4-requires c κs = search needs
 
 returns : tie.Need-returns
 returns c =
-    stops _ _ _ (c .before .address-within .ensures) (c .if1 .taken)
+    stops _ _ _ (c .before .within4 .ensures) (c .if1 .taken)
 
-add-address-within-2 : tie.Need-add-address-within-2
-add-address-within-2 c = search needs
+add-within4-2 : tie.Need-add-within4-2
+add-within4-2 c = search needs
 
-add-address-within-3 : tie.Need-add-address-within-3
-add-address-within-3 c = search needs
+add-within4-3 : tie.Need-add-within4-3
+add-within4-3 c = search needs
 
-address-within-requires-2 : tie.Need-address-within-requires-2
-address-within-requires-2 c κs = search needs
+within4-requires-2 : tie.Need-within4-requires-2
+within4-requires-2 c κs = search needs
 
 returns-2 : tie.Need-returns-2
 returns-2 c =
-    goes-on _ _ _ _ (c .before .before .before .address-within .ensures) (c .before .before .if1 .left)
-    (stops _ _ _ (c .before .address-within2 .ensures) (c .if2 .taken))
+    goes-on _ _ _ _ (c .before .before .before .within4 .ensures) (c .before .before .if1 .left)
+    (stops _ _ _ (c .before .within42 .ensures) (c .if2 .taken))
 
-add-port-within : tie.Need-add-port-within
-add-port-within c = search needs
+add-within2 : tie.Need-add-within2
+add-within2 c = search needs
 
-add-port-within-2 : tie.Need-add-port-within-2
-add-port-within-2 c = search needs
+add-within2-2 : tie.Need-add-within2-2
+add-within2-2 c = search needs
 
-port-within-requires : tie.Need-port-within-requires
-port-within-requires c κs = search needs
+cast-within2 : tie.Need-cast-within2
+cast-within2 c = search needs
+
+within2-requires : tie.Need-within2-requires
+within2-requires c κs = search needs
 
 returns-3 : tie.Need-returns-3
 returns-3 c =
-    goes-on _ _ _ _ (c .before .before .before .before .before .address-within .ensures) (c .before .before .before .before .if1 .left)
-    (goes-on _ _ _ _ (c .before .before .before .address-within2 .ensures) (c .before .before .if2 .left)
-    (stops _ _ _ (c .before .port-within .ensures) (c .if3 .taken)))
+    goes-on _ _ _ _ (c .before .before .before .before .before .before .within4 .ensures) (c .before .before .before .before .before .if1 .left)
+    (goes-on _ _ _ _ (c .before .before .before .before .within42 .ensures) (c .before .before .before .if2 .left)
+    (stops _ _ _ (c .before .within2 .ensures) (c .if3 .taken)))
 
-add-port-within-3 : tie.Need-add-port-within-3
-add-port-within-3 c = search needs
+add-within2-3 : tie.Need-add-within2-3
+add-within2-3 c = search needs
 
-add-port-within-4 : tie.Need-add-port-within-4
-add-port-within-4 c = search needs
+add-within2-4 : tie.Need-add-within2-4
+add-within2-4 c = search needs
 
-port-within-requires-2 : tie.Need-port-within-requires-2
-port-within-requires-2 c κs = search needs
+cast-within2-2 : tie.Need-cast-within2-2
+cast-within2-2 c = search needs
+
+within2-requires-2 : tie.Need-within2-requires-2
+within2-requires-2 c κs = search needs
 
 returns-4 : tie.Need-returns-4
 returns-4 c =
-    goes-on _ _ _ _ (c .before .before .before .before .before .before .before .address-within .ensures) (c .before .before .before .before .before .before .if1 .left)
-    (goes-on _ _ _ _ (c .before .before .before .before .before .address-within2 .ensures) (c .before .before .before .before .if2 .left)
-    (goes-on _ _ _ _ (c .before .before .before .port-within .ensures) (c .before .before .if3 .left)
-    (stops _ _ _ (c .before .port-within2 .ensures) (c .if4 .taken))))
+    goes-on _ _ _ _ (c .before .before .before .before .before .before .before .before .before .within4 .ensures) (c .before .before .before .before .before .before .before .before .if1 .left)
+    (goes-on _ _ _ _ (c .before .before .before .before .before .before .before .within42 .ensures) (c .before .before .before .before .before .before .if2 .left)
+    (goes-on _ _ _ _ (c .before .before .before .before .within2 .ensures) (c .before .before .before .if3 .left)
+    (stops _ _ _ (c .before .within22 .ensures) (c .if4 .taken))))
 
-add-protocol-within : tie.Need-add-protocol-within
-add-protocol-within c = search needs
+add-within1 : tie.Need-add-within1
+add-within1 c = search needs
 
-add-protocol-within-2 : tie.Need-add-protocol-within-2
-add-protocol-within-2 c = search needs
+add-within1-2 : tie.Need-add-within1-2
+add-within1-2 c = search needs
 
-protocol-within-requires : tie.Need-protocol-within-requires
-protocol-within-requires c κs = search needs
+cast-within1 : tie.Need-cast-within1
+cast-within1 c = search needs
+
+within1-requires : tie.Need-within1-requires
+within1-requires c κs = search needs
 
 returns-5 : tie.Need-returns-5
 returns-5 c =
-    goes-on _ _ _ _ (c .before .before .before .before .before .before .before .before .address-within .ensures) (c .before .before .before .before .before .before .before .if1 .left)
-    (goes-on _ _ _ _ (c .before .before .before .before .before .before .address-within2 .ensures) (c .before .before .before .before .before .if2 .left)
-    (goes-on _ _ _ _ (c .before .before .before .before .port-within .ensures) (c .before .before .before .if3 .left)
-    (goes-on _ _ _ _ (c .before .before .port-within2 .ensures) (c .before .if4 .left)
-    (ends _ _ (c .protocol-within .ensures)))))
+    goes-on _ _ _ _ (c .before .before .before .before .before .before .before .before .before .before .before .within4 .ensures) (c .before .before .before .before .before .before .before .before .before .before .if1 .left)
+    (goes-on _ _ _ _ (c .before .before .before .before .before .before .before .before .before .within42 .ensures) (c .before .before .before .before .before .before .before .before .if2 .left)
+    (goes-on _ _ _ _ (c .before .before .before .before .before .before .within2 .ensures) (c .before .before .before .before .before .if3 .left)
+    (goes-on _ _ _ _ (c .before .before .before .within22 .ensures) (c .before .before .if4 .left)
+    (ends _ _ (c .within1 .ensures)))))
 
 pub record-matches-spec : {M : Type 1} → statement M
 record-matches-spec =
     tie.close
     (tie.spec
-    add-address-within
-    address-within-requires
+    add-within4
+    within4-requires
     returns
-    add-address-within-2
-    add-address-within-3
-    address-within-requires-2
+    add-within4-2
+    add-within4-3
+    within4-requires-2
     returns-2
-    add-port-within
-    add-port-within-2
-    port-within-requires
+    add-within2
+    add-within2-2
+    cast-within2
+    within2-requires
     returns-3
-    add-port-within-3
-    add-port-within-4
-    port-within-requires-2
+    add-within2-3
+    add-within2-4
+    cast-within2-2
+    within2-requires-2
     returns-4
-    add-protocol-within
-    add-protocol-within-2
-    protocol-within-requires
+    add-within1
+    add-within1-2
+    cast-within1
+    within1-requires
     returns-5)

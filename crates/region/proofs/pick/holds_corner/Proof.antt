@@ -1,11 +1,7 @@
--- Field by field: the first that misses decides.
+-- Holding is a row of five tests: a field that misses stops it (`stops`), one that matches leaves it to the others (`goes-on`), and the last decides (`ends`).
+-- Assumes nothing.
+use Rattle.policy.proofs.Branches.{stops, goes-on, ends}
 use borrow.Author.Needs.{needs}
-use Rattle.policy.specs.Box.{within, lows}
-use Rattle.policy.specs.Header.{ranges}
-use Rattle.policy.specs.Entry.{selector}
-use Rattle.policy.proofs.Branches.{ends}
-use Rattle.wire.specs.Format.{entryAt}
-use Rattle.region.proofs.Choosing.{misses, goes-in}
 use Rattle.region.proofs.pick.holds_corner.Statement.{statement}
 use Rattle.region.proofs.pick.holds_corner.Tie as tie
 
@@ -17,9 +13,7 @@ within4-requires c κs = search needs
 
 returns : tie.Need-returns
 returns c =
-    let s = selector (entryAt (c .before .before .before .args .s .now) (c .before .before .before .args .at)) in
-    let x = lows 5 (ranges (c .before .before .before .args .b)) in
-    misses 4 (s) (x) _ (c .before .within4 .ensures) (c .if1 .taken)
+    stops _ _ _ (c .before .within4 .ensures) (c .if1 .taken)
 
 add-within4-2 : tie.Need-add-within4-2
 add-within4-2 c = search needs
@@ -32,10 +26,8 @@ within4-requires-2 c κs = search needs
 
 returns-2 : tie.Need-returns-2
 returns-2 c =
-    let s = selector (entryAt (c .before .before .before .before .before .args .s .now) (c .before .before .before .before .before .args .at)) in
-    let x = lows 5 (ranges (c .before .before .before .before .before .args .b)) in
-    goes-in 4 (s) (x) _ _ (c .before .before .before .within4 .ensures) (c .before .before .if1 .left)
-    (misses 3 (s .1) (x .1) _ (c .before .within42 .ensures) (c .if2 .taken))
+    goes-on _ _ _ _ (c .before .before .before .within4 .ensures) (c .before .before .if1 .left)
+    (stops _ _ _ (c .before .within42 .ensures) (c .if2 .taken))
 
 add-within2 : tie.Need-add-within2
 add-within2 c = search needs
@@ -48,11 +40,9 @@ within2-requires c κs = search needs
 
 returns-3 : tie.Need-returns-3
 returns-3 c =
-    let s = selector (entryAt (c .before .before .before .before .before .before .before .args .s .now) (c .before .before .before .before .before .before .before .args .at)) in
-    let x = lows 5 (ranges (c .before .before .before .before .before .before .before .args .b)) in
-    goes-in 4 (s) (x) _ _ (c .before .before .before .before .before .within4 .ensures) (c .before .before .before .before .if1 .left)
-    (goes-in 3 (s .1) (x .1) _ _ (c .before .before .before .within42 .ensures) (c .before .before .if2 .left)
-    (misses 2 (s .1 .1) (x .1 .1) _ (c .before .within2 .ensures) (c .if3 .taken)))
+    goes-on _ _ _ _ (c .before .before .before .before .before .within4 .ensures) (c .before .before .before .before .if1 .left)
+    (goes-on _ _ _ _ (c .before .before .before .within42 .ensures) (c .before .before .if2 .left)
+    (stops _ _ _ (c .before .within2 .ensures) (c .if3 .taken)))
 
 add-within2-3 : tie.Need-add-within2-3
 add-within2-3 c = search needs
@@ -65,12 +55,10 @@ within2-requires-2 c κs = search needs
 
 returns-4 : tie.Need-returns-4
 returns-4 c =
-    let s = selector (entryAt (c .before .before .before .before .before .before .before .before .before .args .s .now) (c .before .before .before .before .before .before .before .before .before .args .at)) in
-    let x = lows 5 (ranges (c .before .before .before .before .before .before .before .before .before .args .b)) in
-    goes-in 4 (s) (x) _ _ (c .before .before .before .before .before .before .before .within4 .ensures) (c .before .before .before .before .before .before .if1 .left)
-    (goes-in 3 (s .1) (x .1) _ _ (c .before .before .before .before .before .within42 .ensures) (c .before .before .before .before .if2 .left)
-    (goes-in 2 (s .1 .1) (x .1 .1) _ _ (c .before .before .before .within2 .ensures) (c .before .before .if3 .left)
-    (misses 1 (s .1 .1 .1) (x .1 .1 .1) _ (c .before .within22 .ensures) (c .if4 .taken))))
+    goes-on _ _ _ _ (c .before .before .before .before .before .before .before .within4 .ensures) (c .before .before .before .before .before .before .if1 .left)
+    (goes-on _ _ _ _ (c .before .before .before .before .before .within42 .ensures) (c .before .before .before .before .if2 .left)
+    (goes-on _ _ _ _ (c .before .before .before .within2 .ensures) (c .before .before .if3 .left)
+    (stops _ _ _ (c .before .within22 .ensures) (c .if4 .taken))))
 
 add-within1 : tie.Need-add-within1
 add-within1 c = search needs
@@ -83,13 +71,11 @@ within1-requires c κs = search needs
 
 returns-5 : tie.Need-returns-5
 returns-5 c =
-    let s = selector (entryAt (c .before .before .before .before .before .before .before .before .before .before .args .s .now) (c .before .before .before .before .before .before .before .before .before .before .args .at)) in
-    let x = lows 5 (ranges (c .before .before .before .before .before .before .before .before .before .before .args .b)) in
-    goes-in 4 (s) (x) _ _ (c .before .before .before .before .before .before .before .before .within4 .ensures) (c .before .before .before .before .before .before .before .if1 .left)
-    (goes-in 3 (s .1) (x .1) _ _ (c .before .before .before .before .before .before .within42 .ensures) (c .before .before .before .before .before .if2 .left)
-    (goes-in 2 (s .1 .1) (x .1 .1) _ _ (c .before .before .before .before .within2 .ensures) (c .before .before .before .if3 .left)
-    (goes-in 1 (s .1 .1 .1) (x .1 .1 .1) _ _ (c .before .before .within22 .ensures) (c .before .if4 .left)
-    (ends (within (s .1 .1 .1 .1 .0) (x .1 .1 .1 .1 .0)) _ (c .within1 .ensures)))))
+    goes-on _ _ _ _ (c .before .before .before .before .before .before .before .before .within4 .ensures) (c .before .before .before .before .before .before .before .if1 .left)
+    (goes-on _ _ _ _ (c .before .before .before .before .before .before .within42 .ensures) (c .before .before .before .before .before .if2 .left)
+    (goes-on _ _ _ _ (c .before .before .before .before .within2 .ensures) (c .before .before .before .if3 .left)
+    (goes-on _ _ _ _ (c .before .before .within22 .ensures) (c .before .if4 .left)
+    (ends _ _ (c .within1 .ensures)))))
 
 pub holds-corner-spec : {M : Type 1} → statement M
 holds-corner-spec =

@@ -7,24 +7,50 @@ use borrow.Author.Needs.{needs}
 use Rattle.policy.specs.Header.{headers, ranges}
 use Rattle.policy.specs.Found.{lesser}
 use Rattle.policy.specs.declared.header.Found.{Found}
+use Rattle.policy.proofs.Bool.{not-true, not-false}
 use Rattle.wire.specs.Format.{recordSize}
 use Rattle.region.specs.Records.{recordsIn}
-use Rattle.region.proofs.Judging.{Left, left-start, left-again, left-exhausted, left-uncaught, left-none}
+use Rattle.region.proofs.Judging.{Left, left-start, left-searched, left-passed, left-exhausted, left-uncaught, left-none}
 use Rattle.region.proofs.Uses.{leftIn}
 use Rattle.region.proofs.treated.least_treated.Statement.{statement}
 use Rattle.region.proofs.treated.least_treated.Tie as tie
 
 abbrev Inv-loop : tie.InvT-loop
-Inv-loop front records x q uncaught n found₀ i₀ found i = (i ≤ length records / recordSize) × (lesser (leftIn headers (ranges x) q uncaught (recordsIn front) (recordsIn records)) found₀ ≡ lesser (Left headers (ranges x) q uncaught (recordsIn front) records i) found)
+Inv-loop front records x q uncaught n found₀ searches₀ i₀ found searches i =
+    (i ≤ length records / recordSize)
+    × (lesser (leftIn headers (ranges x) q uncaught (recordsIn front) (recordsIn records)) found₀ ≡ lesser (Left headers (ranges x) q uncaught (recordsIn front) records i) found)
 
 abbrev μ-loop : tie.MeasureT-loop
-μ-loop front records x q uncaught n found₀ i₀ found i = n - i
+μ-loop front records x q uncaught n found₀ searches₀ i₀ found searches i = n - i
 
 loop-holds : tie.Need-loop-holds Inv-loop μ-loop
-loop-holds c = (omega arith, ap (λ (r : Found). lesser r (c .before .before .args .best)) (left-start headers (ranges (c .before .before .args .x)) (c .before .before .args .q) (c .before .before .args .uncaught) (recordsIn (c .before .before .args .front .now)) (c .before .before .args .records .now) (length (c .before .before .args .records .now) / recordSize) refl))
+loop-holds c =
+    let a = c .before .before .args in
+    (omega arith, ap (λ (r : Found). lesser r (a .best)) (left-start headers (ranges (a .x)) (a .q) (a .uncaught) (recordsIn (a .front .now)) (a .records .now) (length (a .records .now) / recordSize) refl))
 
 mul-at : tie.Need-mul-at Inv-loop μ-loop
 mul-at c = omega arith
+
+read-actions-requires : tie.Need-read-actions-requires Inv-loop μ-loop
+read-actions-requires c κs = omega arith
+
+is-wanted-requires : tie.Need-is-wanted-requires Inv-loop μ-loop
+is-wanted-requires c κs = search needs
+
+add-i : tie.Need-add-i Inv-loop μ-loop
+add-i c = omega arith
+
+loop-less : tie.Need-loop-less Inv-loop μ-loop
+loop-less c = omega arith
+
+loop-again : tie.Need-loop-again Inv-loop μ-loop
+loop-again c =
+    let a = c .before .before .before .before .before .before .before .args in
+    let l = c .before .before .before .before .loop in (
+      omega arith,
+      l .inv .1
+          ∙ left-passed headers (ranges (a .x)) (a .q) (a .uncaught) (recordsIn (a .front .now)) (a .records .now) (l .i) (recordSize * l .i) (l .found) _ _ (c .before .before .before .loop-test .taken) refl (c .before .before .read-actions .ensures) (c .before .is-wanted .ensures) (not-true (c .if1 .taken)),
+    )
 
 sub-is-done : tie.Need-sub-is-done Inv-loop μ-loop
 sub-is-done c = omega arith
@@ -39,28 +65,46 @@ is-done-requires : tie.Need-is-done-requires Inv-loop μ-loop
 is-done-requires c κs = search needs
 
 returns : tie.Need-returns Inv-loop μ-loop
-returns c = left-exhausted headers (ranges (c .before .before .before .before .before .before .before .args .x)) (c .before .before .before .before .before .before .before .args .q) (c .before .before .before .before .before .before .before .args .uncaught) (recordsIn (c .before .before .before .before .before .before .before .args .front .now)) (c .before .before .before .before .before .before .before .args .records .now) (c .before .before .before .before .loop .i) (recordSize * c .before .before .before .before .loop .i - 0) (c .before .before .before .before .loop .found) (c .before .before .before .loop-test .taken) (omega arith) (c .before .is-done .ensures (c .if1 .taken)) ∙ sym (c .before .before .before .before .loop .inv .1)
+returns c =
+    let a = c .before .before .before .before .before .before .before .before .before .before .args in
+    let l = c .before .before .before .before .before .before .before .loop in
+    left-exhausted headers (ranges (a .x)) (a .q) (a .uncaught) (recordsIn (a .front .now)) (a .records .now) (l .i) (recordSize * l .i - 0) (l .found) (c .before .before .before .before .before .before .loop-test .taken) (omega arith) (c .before .is-done .ensures (c .if2 .taken)) ∙ sym (l .inv .1)
 
 with-entry-requires : tie.Need-with-entry-requires Inv-loop μ-loop
 with-entry-requires c κs = omega arith
 
-add-i : tie.Need-add-i Inv-loop μ-loop
-add-i c = omega arith
+wrapping-add-u32-requires : tie.Need-wrapping-add-u32-requires Inv-loop μ-loop
+wrapping-add-u32-requires c κs = search needs
 
-loop-less : tie.Need-loop-less Inv-loop μ-loop
-loop-less c = omega arith
+add-i-2 : tie.Need-add-i-2 Inv-loop μ-loop
+add-i-2 c = omega arith
 
-loop-again : tie.Need-loop-again Inv-loop μ-loop
-loop-again c = (omega arith, c .before .before .before .before .before .loop .inv .1 ∙ left-again headers (ranges (c .before .before .before .before .before .before .before .before .args .x)) (c .before .before .before .before .before .before .before .before .args .q) (c .before .before .before .before .before .before .before .before .args .uncaught) (recordsIn (c .before .before .before .before .before .before .before .before .args .front .now)) (c .before .before .before .before .before .before .before .before .args .records .now) (c .before .before .before .before .before .loop .i) (recordSize * c .before .before .before .before .before .loop .i) (c .before .before .before .before .before .loop .found) _ (c .before .before .before .before .loop-test .taken) refl (c .with-entry .ensures))
+loop-less-2 : tie.Need-loop-less-2 Inv-loop μ-loop
+loop-less-2 c = omega arith
+
+loop-again-2 : tie.Need-loop-again-2 Inv-loop μ-loop
+loop-again-2 c =
+    let a = c .before .before .before .before .before .before .before .before .before .before .before .before .args in
+    let l = c .before .before .before .before .before .before .before .before .before .loop in (
+      omega arith,
+      l .inv .1
+          ∙ left-searched headers (ranges (a .x)) (a .q) (a .uncaught) (recordsIn (a .front .now)) (a .records .now) (l .i) (recordSize * l .i) (l .found) _ _ (c .before .before .before .before .before .before .before .before .loop-test .taken) refl (c .before .before .before .before .before .before .before .read-actions .ensures) (c .before .before .before .before .before .before .is-wanted .ensures) _ (not-false (c .before .before .before .before .before .if1 .left)) (c .before .with-entry .ensures),
+    )
 
 least-open-requires : tie.Need-least-open-requires Inv-loop μ-loop
 least-open-requires c κs = search needs
 
 returns-2 : tie.Need-returns-2 Inv-loop μ-loop
-returns-2 c = left-uncaught headers (ranges (c .before .before .before .before .before .before .args .x)) (c .before .before .before .before .before .before .args .q) (c .before .before .before .before .before .before .args .uncaught) (recordsIn (c .before .before .before .before .before .before .args .front .now)) (c .before .before .before .before .before .before .args .records .now) (c .before .before .before .loop .i) (c .before .before .before .loop .found) _ (c .before .before .before .loop .inv .0) (c .before .before .loop-test .left) (c .before .if2 .taken) (c .least-open .ensures) ∙ sym (c .before .before .before .loop .inv .1)
+returns-2 c =
+    let a = c .before .before .before .before .before .before .args in
+    let l = c .before .before .before .loop in
+    left-uncaught headers (ranges (a .x)) (a .q) (a .uncaught) (recordsIn (a .front .now)) (a .records .now) (l .i) (l .found) _ (l .inv .0) (c .before .before .loop-test .left) (c .before .if3 .taken) (c .least-open .ensures) ∙ sym (l .inv .1)
 
 returns-3 : tie.Need-returns-3 Inv-loop μ-loop
-returns-3 c = left-none headers (ranges (c .before .before .before .before .before .args .x)) (c .before .before .before .before .before .args .q) (c .before .before .before .before .before .args .uncaught) (recordsIn (c .before .before .before .before .before .args .front .now)) (c .before .before .before .before .before .args .records .now) (c .before .before .loop .i) (c .before .before .loop .found) (c .before .before .loop .inv .0) (c .before .loop-test .left) (c .if2 .left) ∙ sym (c .before .before .loop .inv .1)
+returns-3 c =
+    let a = c .before .before .before .before .before .args in
+    let l = c .before .before .loop in
+    left-none headers (ranges (a .x)) (a .q) (a .uncaught) (recordsIn (a .front .now)) (a .records .now) (l .i) (l .found) (l .inv .0) (c .before .loop-test .left) (c .if3 .left) ∙ sym (l .inv .1)
 
 pub least-treated-spec : {M : Type 1} → statement M
 least-treated-spec =
@@ -70,15 +114,21 @@ least-treated-spec =
     μ-loop
     loop-holds
     mul-at
+    read-actions-requires
+    is-wanted-requires
+    add-i
+    loop-less
+    loop-again
     sub-is-done
     part-is-done-start
     part-is-done-end
     is-done-requires
     returns
     with-entry-requires
-    add-i
-    loop-less
-    loop-again
+    wrapping-add-u32-requires
+    add-i-2
+    loop-less-2
+    loop-again-2
     least-open-requires
     returns-2
     returns-3)

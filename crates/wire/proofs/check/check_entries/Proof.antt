@@ -19,25 +19,22 @@ abbrev μ-loop : tie.MeasureT-loop
 loop-holds : tie.Need-loop-holds Inv-loop μ-loop
 loop-holds c = (search needs, refl)
 
-mul-read-selector : tie.Need-mul-read-selector Inv-loop μ-loop
-mul-read-selector c = search needs
+mul-record-is-proper : tie.Need-mul-record-is-proper Inv-loop μ-loop
+mul-record-is-proper c = search needs
 
-add-read-selector : tie.Need-add-read-selector Inv-loop μ-loop
-add-read-selector c = search needs
+add-record-is-proper : tie.Need-add-record-is-proper Inv-loop μ-loop
+add-record-is-proper c = search needs
 
-read-selector-requires : tie.Need-read-selector-requires Inv-loop μ-loop
-read-selector-requires c κs = search needs
-
-is-proper-requires : tie.Need-is-proper-requires Inv-loop μ-loop
-is-proper-requires c κs = search needs
+record-is-proper-requires : tie.Need-record-is-proper-requires Inv-loop μ-loop
+record-is-proper-requires c κs = search needs
 
 returns : tie.Need-returns Inv-loop μ-loop
 returns c =
-    let a = c .before .before .before .before .before .before .args in
-    let l = c .before .before .before .before .loop in
+    let a = c .before .before .before .before .before .args in
+    let l = c .before .before .before .loop in
     let p = entriesFrom (a .file .now) headSize (a .n) in
     let more : l .i < length p = rw length-entries (search needs) in
-    scanned-crossed p (l .i) emptyEntry more (l .inv .1) (a .n) (entry-crossed (a .file .now) (a .n) (l .i) _ _ _ (search needs) (c .before .before .read-selector .ensures) (c .before .is-proper .ensures) (c .if1 .taken))
+    scanned-crossed p (l .i) emptyEntry more (l .inv .1) (a .n) (entry-crossed (a .file .now) (a .n) (l .i) _ _ (search needs) (c .before .record-is-proper .ensures) (c .if1 .taken))
 
 add-i : tie.Need-add-i Inv-loop μ-loop
 add-i c = search needs
@@ -47,11 +44,11 @@ loop-less c = search needs
 
 loop-again : tie.Need-loop-again Inv-loop μ-loop
 loop-again c =
-    let a = c .before .before .before .before .before .before .args in
-    let l = c .before .before .before .before .loop in
+    let a = c .before .before .before .before .before .args in
+    let l = c .before .before .before .loop in
     let p = entriesFrom (a .file .now) headSize (a .n) in
     let more : l .i < length p = rw length-entries (search needs) in
-    (search needs, scanned-next p (l .i) emptyEntry more (l .inv .1) (entry-crossed (a .file .now) (a .n) (l .i) _ _ _ (search needs) (c .before .before .read-selector .ensures) (c .before .is-proper .ensures) (c .if1 .left)))
+    (search needs, scanned-next p (l .i) emptyEntry more (l .inv .1) (entry-crossed (a .file .now) (a .n) (l .i) _ _ (search needs) (c .before .record-is-proper .ensures) (c .if1 .left)))
 
 returns-2 : tie.Need-returns-2 Inv-loop μ-loop
 returns-2 c =
@@ -66,10 +63,9 @@ check-entries-spec =
     Inv-loop
     μ-loop
     loop-holds
-    mul-read-selector
-    add-read-selector
-    read-selector-requires
-    is-proper-requires
+    mul-record-is-proper
+    add-record-is-proper
+    record-is-proper-requires
     returns
     add-i
     loop-less

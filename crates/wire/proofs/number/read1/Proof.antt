@@ -1,8 +1,8 @@
 -- A byte fits.
 use native.Mathlib.Omega.{arith}
 use borrow.Author.Needs.{needs}
-use Rattle.region.proofs.pick.read1.Statement.{statement}
-use Rattle.region.proofs.pick.read1.Tie as tie
+use Rattle.wire.proofs.number.read1.Statement.{statement}
+use Rattle.wire.proofs.number.read1.Tie as tie
 
 shared-slice-read-result : tie.Need-shared-slice-read-result
 shared-slice-read-result c = search needs

@@ -1,8 +1,8 @@
--- The two tests of a range.
+-- The low end decides where x is below it, and the high end otherwise.
 use borrow.Author.Needs.{needs}
-use Rattle.region.proofs.Choosing.{below-low, up-to-high}
-use Rattle.region.proofs.pick.within1.Statement.{statement}
-use Rattle.region.proofs.pick.within1.Tie as tie
+use Rattle.wire.proofs.Within.{below-low, high-decides}
+use Rattle.wire.proofs.holds.within1.Statement.{statement}
+use Rattle.wire.proofs.holds.within1.Tie as tie
 
 read1-requires : tie.Need-read1-requires
 read1-requires c κs = search needs
@@ -14,7 +14,7 @@ read1-requires-2 : tie.Need-read1-requires-2
 read1-requires-2 c κs = search needs
 
 returns-2 : tie.Need-returns-2
-returns-2 c = search up-to-high
+returns-2 c = search high-decides
 
 pub within1-spec : {M : Type 1} → statement M
 within1-spec = tie.close (tie.spec read1-requires returns read1-requires-2 returns-2)

@@ -1,8 +1,8 @@
--- The two tests of a range.
+-- The low end decides where x is below it, and the high end otherwise.
 use borrow.Author.Needs.{needs}
-use Rattle.region.proofs.Choosing.{below-low, up-to-high}
-use Rattle.region.proofs.pick.within2.Statement.{statement}
-use Rattle.region.proofs.pick.within2.Tie as tie
+use Rattle.wire.proofs.Within.{below-low, high-decides}
+use Rattle.wire.proofs.holds.within2.Statement.{statement}
+use Rattle.wire.proofs.holds.within2.Tie as tie
 
 read2-requires : tie.Need-read2-requires
 read2-requires c κs = search needs
@@ -20,7 +20,7 @@ cast-result : tie.Need-cast-result
 cast-result c = search needs
 
 returns-2 : tie.Need-returns-2
-returns-2 c = search up-to-high
+returns-2 c = search high-decides
 
 pub within2-spec : {M : Type 1} → statement M
 within2-spec =
