@@ -1,0 +1,52 @@
+-- The number rises to the last entry.
+use Prim.Native.Nat.{_≤_, _-_}
+use mathlib.Core.Path.{_≡_}
+use lib.ListN.{length}
+use borrow.Author.Needs.{needs}
+use Rattle.bench_run.proofs.filing.put_front.Statement.{statement}
+use Rattle.bench_run.proofs.filing.put_front.Tie as tie
+
+abbrev Inv-loop : tie.InvT-loop
+Inv-loop longer₀ list n i₀ longer i = (i ≤ n) × (length longer ≡ length longer₀)
+
+abbrev μ-loop : tie.MeasureT-loop
+μ-loop longer₀ list n i₀ longer i = n - i
+
+loop-holds : tie.Need-loop-holds Inv-loop μ-loop
+loop-holds c = search needs
+
+entry-at-requires : tie.Need-entry-at-requires Inv-loop μ-loop
+entry-at-requires c κs = search needs
+
+put-entry-requires : tie.Need-put-entry-requires Inv-loop μ-loop
+put-entry-requires c κs = search needs
+
+add-i : tie.Need-add-i Inv-loop μ-loop
+add-i c = search needs
+
+loop-less : tie.Need-loop-less Inv-loop μ-loop
+loop-less c = search needs
+
+loop-again : tie.Need-loop-again Inv-loop μ-loop
+loop-again c = search needs
+
+same-length : tie.Need-same-length Inv-loop μ-loop
+same-length c = search needs
+
+returns : tie.Need-returns Inv-loop μ-loop
+returns c = search needs
+
+pub put-front-spec : {M : Type 1} → statement M
+put-front-spec =
+    tie.close
+    (tie.spec
+    Inv-loop
+    μ-loop
+    loop-holds
+    entry-at-requires
+    put-entry-requires
+    add-i
+    loop-less
+    loop-again
+    same-length
+    returns)
