@@ -45,12 +45,17 @@ install: archive
 	    'Libs: -L$${libdir} -lgateway' 'Cflags: -I$${includedir}' \
 	    > $(DESTDIR)$(PREFIX)/lib/pkgconfig/dunnarek-policy.pc
 
-# Lookup and comparison beside Rust versions of the same, as a Markdown page; no part of the gate.
-# Cargo does not notice a new archive, so it starts from nothing.
-bench: archive
+# Times beside Rust versions of the same jobs, and what the proofs take, as docs/BENCHMARKS.md; no part of the gate.
+# Proves every crate anew, which takes longest, or only those named by CHECKED. Cargo does not notice a new archive, so it starts from nothing.
+CHECKED =
+bench:
+	mkdir -p target
+	outside/check_figures $(CHECKED) > target/checking.md
+	rt staticlib gateway
+	rt staticlib measured
 	rm -rf outside/target
-	$(CARGO) --features gateway --bin bench
-	outside/target/release/bench
+	$(CARGO) --features gateway,measured --bin bench
+	outside/target/release/bench docs/BENCHMARKS.md target/checking.md
 
 clean:
 	rm -rf target outside/target

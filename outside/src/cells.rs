@@ -1,6 +1,6 @@
-//! The second road of the measurements, which someone would take who knows no better: cut each field
-//! at all ends of ranges, note for each cell which entries hold it, as bits, and walk the cells in
-//! the order of headers, remembering the sets of entries that were walked from before.
+//! Another method for the same jobs, for measuring: coordinate compression. Each field is cut at all
+//! ends of ranges, each cell notes which entries hold it, as bits, and the cells are walked in the
+//! order of headers, remembering the sets of entries that were walked from before.
 
 use crate::entry::{Box5, Entry, Header, List, FIELDS, TOP};
 use crate::merge::Merged;

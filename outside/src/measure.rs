@@ -29,14 +29,14 @@ fn now() -> f64 {
 pub fn seconds(jobs: &mut [&mut dyn FnMut() -> u64]) -> Vec<f64> {
     let mut least = vec![f64::MAX; jobs.len()];
     let mut calls = vec![1; jobs.len()];
-    let mut batches = 12;
+    let mut batches = 40;
     for (k, job) in jobs.iter_mut().enumerate() {
         let start = now();
         black_box(job());
         let once = (now() - start).max(1e-8);
         calls[k] = ((1e-3 / once) as usize).clamp(1, 100_000);
         if once > 0.05 {
-            batches = 3;
+            batches = 5;
         }
     }
     for _ in 0..batches {

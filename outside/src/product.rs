@@ -2,24 +2,26 @@
 //! libgateway.a, feature `measured` for libmeasured.a, an archive made for measuring alone:
 //!
 //! ```c
-//! /* The public search. `within` is 26 bytes, a record without its action set; `want` is 0 for
-//!    uncaught, 1 for caught by entry `value`, 2 for a set other than `value`. 0 for none, 1 with the
-//!    header in the buffer's first 13 bytes, 256 plus the refusal's number. */
+//! /* The public search, in the selector of a record of 28 bytes. `want` is 0 for uncaught, 1 for
+//!    caught by entry `value`, 2 for a set other than `value`. 0 for none, 1 with the header in the
+//!    buffer's first 13 bytes, 256 plus the refusal's number. */
 //! uint32_t measured_search(const uint8_t *file, size_t file_len,
-//!                          const uint8_t *within, size_t within_len,
-//!                          uint32_t want, uint32_t value, uint8_t *header, size_t header_len);
+//!                          const uint8_t *record, size_t record_len,
+//!                          uint32_t want, uint16_t value, uint8_t *header, size_t header_len);
 //! /* Lookup as a part of the file: the part's length, 0 or 28. */
-//! uint32_t measured_part(const uint8_t *file, size_t file_len, uint32_t local, uint32_t remote,
-//!                        uint16_t local_port, uint16_t remote_port, uint8_t protocol);
-//! /* Reads the file into a table, looks up each header of 13 bytes in it; the sum of the answers,
-//!    256 for uncaught. */
-//! uint32_t measured_table(const uint8_t *file, size_t file_len,
-//!                         const uint8_t *headers, size_t headers_len);
+//! size_t measured_part(const uint8_t *file, size_t file_len, uint32_t local, uint32_t remote,
+//!                      uint16_t local_port, uint16_t remote_port, uint8_t protocol);
+//! /* Lookup in a lent table: the entry's number, 256 for uncaught. An entry is 28 bytes, as
+//!    baseline::Unpacked lays it out. */
+//! size_t measured_table(const struct entry *table, size_t table_len, uint32_t local,
+//!                       uint32_t remote, uint16_t local_port, uint16_t remote_port,
+//!                       uint8_t protocol);
 //! /* Files an input of the program on a bench and merges into the buffer: the entry count, or 256
 //!    plus the refusal's number. */
-//! uint32_t measured_merge(const uint8_t *input, size_t input_len, uint8_t *file, size_t file_len);
+//! size_t measured_merge(const uint8_t *input, size_t input_len, uint8_t *file, size_t file_len);
 //! ```
 
+use crate::baseline::Unpacked;
 use crate::entry::{Box5, Entry, Header};
 use crate::model::Want;
 
@@ -28,7 +30,7 @@ pub struct Product {
     pub compare: Option<fn(&[u8], &[u8], &mut [u8]) -> u32>,
     pub search: Option<fn(&[u8], &Search, &mut [u8]) -> u32>,
     pub part: Option<fn(&[u8], &Header) -> u32>,
-    pub table: Option<fn(&[u8], &[u8]) -> u32>,
+    pub table: Option<fn(&[Unpacked], &Header) -> u32>,
     pub merge: Option<fn(&[u8], &mut [u8]) -> u32>,
 }
 
@@ -53,34 +55,34 @@ pub fn product() -> Product {
 
 /// A search as `measured_search` takes it.
 pub struct Search {
-    pub within: Vec<u8>,
+    pub record: Vec<u8>,
     pub want: u32,
-    pub value: u32,
+    pub value: u16,
 }
 
 pub fn search_of(within: &Box5, want: Want) -> Search {
     let entry = Entry { selector: *within, actions: 0 };
     let (want, value) = match want {
         Want::Uncaught => (0, 0),
-        Want::CaughtBy(i) => (1, i as u32),
-        Want::Differing(set) => (2, set as u32),
+        Want::CaughtBy(i) => (1, i as u16),
+        Want::Differing(set) => (2, set),
     };
-    Search { within: crate::entry::record(&entry)[..26].to_vec(), want, value }
+    Search { record: crate::entry::record(&entry), want, value }
 }
 
 #[cfg(feature = "measured")]
 mod measured {
-    use super::{Header, Search};
+    use super::{Header, Search, Unpacked};
 
     #[link(name = "measured", kind = "static")]
     extern "C" {
         fn measured_search(
             file: *const u8,
             file_len: usize,
-            within: *const u8,
-            within_len: usize,
+            record: *const u8,
+            record_len: usize,
             want: u32,
-            value: u32,
+            value: u16,
             header: *mut u8,
             header_len: usize,
         ) -> u32;
@@ -92,19 +94,22 @@ mod measured {
             local_port: u16,
             remote_port: u16,
             protocol: u8,
-        ) -> u32;
+        ) -> usize;
         fn measured_table(
-            file: *const u8,
-            file_len: usize,
-            headers: *const u8,
-            headers_len: usize,
-        ) -> u32;
+            table: *const Unpacked,
+            table_len: usize,
+            local: u32,
+            remote: u32,
+            local_port: u16,
+            remote_port: u16,
+            protocol: u8,
+        ) -> usize;
         fn measured_merge(
             input: *const u8,
             input_len: usize,
             file: *mut u8,
             file_len: usize,
-        ) -> u32;
+        ) -> usize;
     }
 
     // Sound, all four: each pointer goes with the length of the slice that it is taken from.
@@ -114,8 +119,8 @@ mod measured {
             measured_search(
                 file.as_ptr(),
                 file.len(),
-                search.within.as_ptr(),
-                search.within.len(),
+                search.record.as_ptr(),
+                search.record.len(),
                 search.want,
                 search.value,
                 header.as_mut_ptr(),
@@ -126,14 +131,17 @@ mod measured {
 
     pub fn part(file: &[u8], h: &Header) -> u32 {
         let (ports, protocol) = ((h[2] as u16, h[3] as u16), h[4] as u8);
-        unsafe { measured_part(file.as_ptr(), file.len(), h[0], h[1], ports.0, ports.1, protocol) }
+        let (bytes, length) = (file.as_ptr(), file.len());
+        unsafe { measured_part(bytes, length, h[0], h[1], ports.0, ports.1, protocol) as u32 }
     }
 
-    pub fn table(file: &[u8], headers: &[u8]) -> u32 {
-        unsafe { measured_table(file.as_ptr(), file.len(), headers.as_ptr(), headers.len()) }
+    pub fn table(table: &[Unpacked], h: &Header) -> u32 {
+        let (ports, protocol) = ((h[2] as u16, h[3] as u16), h[4] as u8);
+        let (entries, length) = (table.as_ptr(), table.len());
+        unsafe { measured_table(entries, length, h[0], h[1], ports.0, ports.1, protocol) as u32 }
     }
 
     pub fn merge(input: &[u8], file: &mut [u8]) -> u32 {
-        unsafe { measured_merge(input.as_ptr(), input.len(), file.as_mut_ptr(), file.len()) }
+        unsafe { measured_merge(input.as_ptr(), input.len(), file.as_mut_ptr(), file.len()) as u32 }
     }
 }

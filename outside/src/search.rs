@@ -48,7 +48,7 @@ pub fn common_part(a: &Box5, b: &Box5) -> Box5 {
 fn cut_order(x: &Box5, high: &Header, crossing: &[u32; FIELDS]) -> ([usize; FIELDS], usize) {
     let mut order = [0; FIELDS];
     let mut n = 0;
-    for f in 0..FIELDS {
+    for f in (0..FIELDS).rev() {
         if high[f] < x.high[f] {
             let mut at = n;
             while at > 0 && crossing[order[at - 1]] > crossing[f] {
@@ -125,7 +125,7 @@ fn is_ordered(r: &Record, f: usize) -> bool {
 }
 
 /// Whether no record has a crossed range.
-pub fn all_proper(bytes: &[u8]) -> bool {
+pub fn are_proper(bytes: &[u8]) -> bool {
     records(bytes).iter().all(|r| {
         is_ordered(r, 0)
             && is_ordered(r, 1)

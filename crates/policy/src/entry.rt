@@ -8,6 +8,8 @@ ghost use mathlib.Core.Path.{_≡_};
 ghost use Rattle.policy.specs.Header.{ranges};
 ghost use Rattle.policy.specs.Entry.{selector, matches, crossed};
 
+// Laid out as in C, which may lend a table of them.
+#[repr(C)]
 pub struct Entry {
     pub local_low: u32,
     pub local_high: u32,

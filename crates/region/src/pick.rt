@@ -170,5 +170,5 @@ pub(crate) fn pick_of_two(a: &[u8], b: &[u8], x: Region) -> Picked
         return Picked::Held(read_selector(a, RECORD_SIZE * c.number));
     }
     let d = choose(b, x, full);
-    either(chosen(a, x, c), chosen(b, x, d), d.weight < c.weight)
+    either(chosen(a, x, c), chosen(b, x, d), d.weight <= c.weight)
 }

@@ -3,7 +3,7 @@
 use outside::baseline;
 use outside::cells;
 use outside::daemon_cases::{comparisons, lookups};
-use outside::entry::{file, header_bytes, records, Entry, List, ALL};
+use outside::entry::{file, header_bytes, records, Entry, Header, List, ALL};
 use outside::generate::{any_list, box_near, program_input, Sets};
 use outside::merge::{merge, Form, Merged};
 use outside::model::{self, Refusal, Want};
@@ -65,6 +65,14 @@ fn mergings(cases: &mut Cases, wanted: usize, random: &mut Random) {
     );
 }
 
+/// Lookup in a table, answered as the daemon's call is.
+fn lookup_in_table(file: &[u8], h: &Header) -> u32 {
+    match baseline::records(file, 256) {
+        Ok(records) => baseline::lookup_unpacked(&baseline::unpack(&decode(records)), h),
+        Err(refusal) => 256 + refusal,
+    }
+}
+
 /// Comparison by cells, answered as the daemon's call is.
 fn compare_by_cells(first: &[u8], second: &[u8], header: &mut [u8]) -> u32 {
     let answer = baseline::compare(first, second, header);
@@ -84,6 +92,7 @@ fn main() {
     let wanted = Cases::wanted(20_000);
     let mut random = Random::new(30);
     lookups(&mut cases, wanted / 5, &mut random, &baseline::lookup);
+    lookups(&mut cases, wanted / 5, &mut random, &lookup_in_table);
     comparisons(&mut cases, wanted / 4, &mut random, &baseline::compare);
     comparisons(&mut cases, wanted / 4, &mut random, &baseline::compare_decoded);
     comparisons(&mut cases, wanted / 10, &mut random, &compare_by_cells);

@@ -1,0 +1,52 @@
+// The public search.
+use policy::header::Header;
+use policy::refusal::number_of;
+use region::search::Searched;
+use region::search::Want;
+use region::search::search_file;
+use wire::format::RECORD_SIZE;
+use wire::header::header_bytes;
+use wire::put::put_bytes;
+use wire::record::read_selector;
+
+// What is looked for: 0 for uncaught, 1 for caught by the entry of a number, else a set other than it.
+fn want_of(want: u32, value: u16) -> Want {
+    if want == 0 {
+        return Want::Uncaught;
+    }
+    if want == 1 {
+        return Want::CaughtBy(value as usize);
+    }
+    Want::Differs(value)
+}
+
+// Puts the header at the start of the buffer, if it has 13 bytes.
+fn put_header(buffer: &mut [u8], h: Header) {
+    if 13 <= buffer.len() {
+        let bytes = header_bytes(h);
+        put_bytes(buffer, 0, &bytes);
+    }
+}
+
+// Searches the selector of a record: 0 for none, 1 with the header in the buffer, or 256 plus the number of the refusal. 512 if there is no
+// record.
+#[no_mangle]
+pub extern "C" fn measured_search(
+    file: &[u8],
+    record: &[u8],
+    want: u32,
+    value: u16,
+    buffer: &mut [u8],
+) -> u32 {
+    if record.len() < RECORD_SIZE {
+        return 512;
+    }
+    match search_file(file, read_selector(record, 0), want_of(want, value)) {
+        Searched::Nothing => 0,
+        Searched::At(h) => {
+            put_header(buffer, h);
+            1
+        }
+        Searched::Refused(r) => 256 + number_of(r) as u32,
+    }
+}

@@ -1,0 +1,126 @@
+//! Comparison of two files.
+
+use outside::baseline;
+use outside::cells;
+use outside::entry::{file, List};
+use outside::generate::{family, realistic_list, related_list, Closing, Sets, Shape};
+use outside::page::{count, Table};
+use outside::product::Product;
+use outside::random::Random;
+use outside::search::{decode, gap, unrefined, Packed};
+
+use crate::findings::{Page, Target};
+use crate::growth::Growth;
+use crate::search::{good_records, hardest, name_of};
+use crate::times::{head, Job, Times, STATES};
+
+const JOB: &str = "comparison";
+
+static RATIO: Target =
+    Target { words: "comparison: at most 1.3 times Rust over the bytes", most: 1.3 };
+
+fn pairs(random: &mut Random) -> Vec<(String, List, List)> {
+    let mut pairs = vec![];
+    for n in [32, 64, 128, 256] {
+        let list = realistic_list(n, Sets::With(4), random);
+        let mut wider = list.clone();
+        wider.iter_mut().for_each(|e| e.actions |= 0x100);
+        pairs.push((format!("realistic {n}, the second wider"), list.clone(), wider));
+        let other = related_list(&list, random);
+        pairs.push((format!("realistic {n}, the second changed"), list, other));
+    }
+    for (shape, closing) in [
+        (Shape::Partition, Closing::Halves),
+        (Shape::Staircase, Closing::Halves),
+        (Shape::Plane, Closing::Halves),
+        (Shape::Slabs(3), Closing::All),
+    ] {
+        let name = name_of(shape, closing);
+        let (first, ..) = hardest(shape, closing, 256);
+        let mut wider = first.clone();
+        for e in &mut wider {
+            if random.one_in(2) {
+                e.actions |= 0x10;
+            }
+        }
+        pairs.push((format!("{name}, the second wider"), first.clone(), wider));
+        let second = dead_list(random);
+        pairs.push((format!("{name}, the second mostly dead"), all_actions(first), second));
+    }
+    pairs
+}
+
+fn all_actions(mut list: List) -> List {
+    list.iter_mut().for_each(|e| e.actions = 0xffff);
+    list
+}
+
+/// 128 entries that cover and allow everything, then 128 that catch nothing and allow nothing.
+fn dead_list(random: &mut Random) -> List {
+    let mut list = all_actions(family(Shape::Exact, Closing::Bare, 128, random));
+    let mut dead = family(Shape::Slabs(5), Closing::Bare, 128, random);
+    dead.iter_mut().for_each(|e| e.actions = 0);
+    list.extend(dead);
+    list
+}
+
+pub fn comparisons(page: &mut Page, product: &Product) {
+    page.say("## Comparison of two files\n");
+    page.say(
+        "Checks 1 to 5 on both files, then refinement. \"Mostly dead\" is the worst pair known: \
+         half of the second file's entries cover and allow everything, the others catch nothing.\n",
+    );
+    let mut table = Table::new(&head(&["files", "answer", "boxes"]));
+    for (name, first, second) in pairs(&mut Random::new(200)) {
+        let (a, b) = (&file(&first)[..], &file(&second)[..]);
+        let mut header = [0u8; 13];
+        let answer = baseline::compare(a, b, &mut header);
+        let mut boxes = 0;
+        gap(&Packed { lists: [&a[5..], &[]] }, &mut boxes);
+        gap(&Packed { lists: [&b[5..], &[]] }, &mut boxes);
+        unrefined(&Packed { lists: [&a[5..], &b[5..]] }, &mut boxes);
+        let mut lent = [0u8; 13];
+        let mut ours = product.compare.map(|compare| {
+            assert_eq!(compare(a, b, &mut lent), answer);
+            assert_eq!(lent, header);
+            move || compare(a, b, &mut lent) as u64
+        });
+        let times = Times::of(
+            ours.as_mut().map(|job| job as Job),
+            &mut || baseline::compare(a, b, &mut [0; 13]) as u64,
+            &mut || baseline::compare_decoded(a, b, &mut [0; 13]) as u64,
+            &mut || {
+                let (p, q) = (decode(good_records(a)), decode(good_records(b)));
+                let covering = cells::gap(&p, STATES).is_ok() && cells::gap(&q, STATES).is_ok();
+                covering && cells::unrefined(&p, &q, STATES).is_ok()
+            },
+        );
+        times.note(page, JOB, &name);
+        page.hold(&RATIO, &name, times.ours() / times.packed);
+        let answer = if answer == 0 { "yes" } else { "no" };
+        let mut row = vec![name, answer.to_string(), count(boxes)];
+        row.extend(times.columns());
+        table.row(row);
+    }
+    page.say(&table.text());
+}
+
+pub fn growth(growth: &mut Growth, product: &Product) {
+    let sizes = [32, 64, 128, 256];
+    let files = sizes.map(|n| {
+        let list = realistic_list(n, Sets::With(4), &mut Random::new(200));
+        let mut wider = list.clone();
+        wider.iter_mut().for_each(|e| e.actions |= 0x100);
+        (file(&list), file(&wider))
+    });
+    let mut jobs = vec![];
+    for (a, b) in &files {
+        let ours = product.compare.map(|compare| move || compare(a, b, &mut [0; 13]) as u64);
+        jobs.push((ours, move || baseline::compare(a, b, &mut [0; 13]) as u64));
+    }
+    let mut rows: Vec<(usize, Option<Job>, Job)> = vec![];
+    for (n, (ours, rust)) in sizes.iter().zip(&mut jobs) {
+        rows.push((*n, ours.as_mut().map(|job| job as Job), rust));
+    }
+    growth.row("comparison: realistic, the second wider", &mut rows);
+}

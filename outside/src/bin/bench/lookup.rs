@@ -1,0 +1,163 @@
+//! Lookup: the entry's number and the record's part in a file, and in a table of decoded entries.
+
+use outside::baseline::{lookup, lookup_unpacked, unpack};
+use outside::entry::{file, Header, List};
+use outside::generate::{header_near, realistic_list, Sets};
+use outside::model::catching;
+use outside::page::{maybe_time, ratio, time, Table};
+use outside::product::Product;
+use outside::random::Random;
+
+use crate::findings::{Page, Target};
+use crate::growth::Growth;
+use crate::times::{each, Job, BYTES};
+
+static RATIO: Target = Target { words: "lookup: at most 1.2 times Rust over the bytes", most: 1.2 };
+static TABLE: Target =
+    Target { words: "lookup in a table: at most 1.2 times Rust over structs", most: 1.2 };
+
+const SIZES: [usize; 5] = [10, 32, 64, 128, 256];
+
+/// Headers at and beside the ends of the list's ranges: 64 of any, or of 2,000 those caught last.
+fn headers_for(list: &List, last: bool, random: &mut Random) -> Vec<Header> {
+    let tried = if last { 2_000 } else { 64 };
+    let mut headers: Vec<Header> = (0..tried).map(|_| header_near(list, random)).collect();
+    headers.sort_by_key(|h| if last { list.len() - catching(list, h).unwrap_or(0) } else { 0 });
+    headers.truncate(64);
+    headers
+}
+
+/// The mean number of the entries that catch the headers.
+fn depth(list: &List, headers: &[Header]) -> f64 {
+    let numbers = headers.iter().map(|h| catching(list, h).unwrap_or(0) as f64);
+    numbers.sum::<f64>() / headers.len() as f64
+}
+
+/// Of twenty realistic lists the one whose last entries catch the most.
+fn list_of(n: usize) -> (List, Random) {
+    let tries = (0..20).map(|seed| {
+        let mut random = Random::new(300 + seed);
+        let list = realistic_list(n, Sets::With(4), &mut random);
+        let found = depth(&list, &headers_for(&list, true, &mut random.clone()));
+        (found, list, random)
+    });
+    let (_, list, random) = tries.max_by(|a, b| a.0.total_cmp(&b.0)).expect("twenty lists");
+    (list, random)
+}
+
+/// Seconds of one lookup.
+struct Lookups {
+    number: Option<f64>,
+    part: Option<f64>,
+    rust: f64,
+    table: Option<f64>,
+    structs: f64,
+}
+
+fn lookup_times(product: &Product, list: &List, headers: &[Header]) -> Lookups {
+    let (bytes, entries) = (&file(list)[..], &unpack(list)[..]);
+    let answers: Vec<u32> = headers.iter().map(|h| lookup(bytes, h)).collect();
+    let sum = &|lookup: &dyn Fn(&Header) -> u32| headers.iter().map(|h| lookup(h) as u64).sum();
+    let same = &|lookup: &dyn Fn(&Header) -> u32| {
+        headers.iter().zip(&answers).for_each(|(h, answer)| assert_eq!(lookup(h), *answer))
+    };
+    let mut number = product.lookup.map(|number| {
+        same(&|h| number(bytes, h));
+        move || sum(&|h| number(bytes, h))
+    });
+    let mut part = product.part.map(|part| {
+        assert!(headers.iter().all(|h| part(bytes, h) == 28));
+        move || sum(&|h| part(bytes, h))
+    });
+    let mut table = product.table.map(|table| {
+        same(&|h| table(entries, h));
+        move || sum(&|h| table(entries, h))
+    });
+    same(&|h| lookup_unpacked(entries, h));
+    let mut rust = || sum(&|h| lookup(bytes, h));
+    let mut structs = || sum(&|h| lookup_unpacked(entries, h));
+    let times = each(vec![
+        number.as_mut().map(|job| job as Job),
+        part.as_mut().map(|job| job as Job),
+        Some(&mut rust),
+        table.as_mut().map(|job| job as Job),
+        Some(&mut structs),
+    ]);
+    let one = |time: Option<f64>| time.map(|t| t / headers.len() as f64);
+    Lookups {
+        number: one(times[0]),
+        part: one(times[1]),
+        rust: one(times[2]).expect("timed"),
+        table: one(times[3]),
+        structs: one(times[4]).expect("timed"),
+    }
+}
+
+/// Notes the ratios of a row.
+fn note(page: &mut Page, row: &str, times: &Lookups) {
+    for (job, ours, other, beside, target) in [
+        ("lookup of the number", times.number, times.rust, BYTES, &RATIO),
+        ("lookup of the part", times.part, times.rust, BYTES, &RATIO),
+        ("lookup in a table", times.table, times.structs, "Rust, structs", &TABLE),
+    ] {
+        if let Some(ours) = ours {
+            page.compare(job, beside, row, ours / other);
+            page.hold(target, row, ours / other);
+        }
+    }
+}
+
+pub fn lookups(page: &mut Page, product: &Product) {
+    page.say("## Lookup\n");
+    page.say(
+        "Of twenty realistic lists the one whose last entries catch the most; the mean over 64 \
+         headers at and beside the ends of its ranges, and over the 64 of 2,000 that are caught \
+         last. \"Entry\" is the mean number of the entry that catches them. Number and part check \
+         the file first, as 01 says, and so does the Rust version over the bytes. The table is of \
+         structs with the fields' own widths, and is lent to both.\n",
+    );
+    let columns = ["number", BYTES, "ratio", "part", "ratio", "table", "Rust, structs", "ratio"];
+    let mut table = Table::new(&[&["list and headers", "entry"], &columns[..]].concat());
+    for n in SIZES {
+        for (last, word) in [(false, "mixed"), (true, "caught last")] {
+            let (list, mut random) = list_of(n);
+            let headers = headers_for(&list, last, &mut random);
+            let name = format!("{n} entries, {word}");
+            let times = lookup_times(product, &list, &headers);
+            note(page, &name, &times);
+            table.row(vec![
+                name,
+                format!("{:.0}", depth(&list, &headers)),
+                maybe_time(times.number),
+                time(times.rust),
+                ratio(times.number, times.rust),
+                maybe_time(times.part),
+                ratio(times.part, times.rust),
+                maybe_time(times.table),
+                time(times.structs),
+                ratio(times.table, times.structs),
+            ]);
+        }
+    }
+    page.say(&table.text());
+}
+
+pub fn growth(growth: &mut Growth, product: &Product) {
+    let inputs = SIZES.map(|n| {
+        let (list, mut random) = list_of(n);
+        let headers = headers_for(&list, true, &mut random);
+        (file(&list), headers)
+    });
+    let mut jobs = vec![];
+    for (bytes, headers) in &inputs {
+        let sum = |one: fn(&[u8], &Header) -> u32| {
+            move || headers.iter().map(|h| one(bytes, h) as u64).sum::<u64>()
+        };
+        jobs.push((product.lookup.map(sum), sum(lookup)));
+    }
+    let mut rows: Vec<(usize, Option<Job>, Job)> = vec![];
+    for (n, (ours, rust)) in SIZES.iter().zip(&mut jobs) {
+        rows.push((*n, ours.as_mut().map(|job| job as Job), rust));
+    }
+    growth.row("lookup, 64 numbers: realistic, caught last", &mut rows);
+}
