@@ -12,7 +12,7 @@ use Rattle.policy.specs.declared.header.Found.{Found}
 use Rattle.policy.specs.declared.header.Found.the-variants.{At, Nothing}
 use Rattle.policy.specs.declared.entry.Entry.{Entry}
 use Rattle.policy.specs.Row.{Row}
-use Rattle.policy.specs.Box.{proper, meet}
+use Rattle.policy.specs.Box.{meet}
 use Rattle.policy.specs.Header.{arity, fields, header, before, Box, Headers}
 use Rattle.policy.specs.Found.{lesser}
 use Rattle.policy.specs.Least.{leastIn}
@@ -30,7 +30,6 @@ use Rattle.region.specs.Records.{recordsIn}
 use Rattle.region.specs.Corner.{improves}
 use Rattle.region.specs.Treated.{wanted}
 use Rattle.region.specs.Search.{foundAnswer}
-use Rattle.region.proofs.Steps.{found-crossed}
 use Rattle.region.proofs.Uses.{leftIn, judged-wanted, judged-passed, judged-end, judged-exhausted}
 
 -- ---- is_wanted
@@ -226,12 +225,6 @@ entry-part hs s at n front x p r best found k i m f =
     f
     ∙ ap (λ (n : ℕ). lesser (leastIn hs p (missed (front ++ recordsIn (take n s)))) best) k
     ∙ ap (λ (p : Box). lesser (leastIn hs p (missed (front ++ recordsIn (take at s)))) best) (m ∙ ap (meet arity x) i)
-
--- the selector has no header in common with the box
-pub entry-apart : (hs : Headers) (s : List ℕ) (at : ℕ) (front : List Entry) (x p r : Box) (best : Found) (t : Bool) → r ≡ selector (entryAt s at) → p ≡ meet arity x r
-    → t ≡ proper arity p → not t ≡ true → best ≡ lesser (leastIn hs (meet arity x (selector (entryAt s at))) (missed (front ++ recordsIn (take at s)))) best
-entry-apart hs s at front x p r best t i m e n =
-    found-crossed hs (front ++ recordsIn (take at s)) (meet arity x (selector (entryAt s at))) best t (e ∙ ap (proper arity) (m ∙ ap (meet arity x) i)) (not-true n)
 
 -- ---- a search's answer
 

@@ -4,7 +4,7 @@ use Rattle.wire.specs.Format.{recordSize}
 use Prim.Native.Nat.{ℕ, zero, suc, _<_, _≤_, _-_, _+_, _/_, _^_}
 use native.Mathlib.Omega.{arith}
 use mathlib.Core.Path.{_≡_, refl, sym, _∙_, ap, ap₂, subst}
-use mathlib.Core.Bool.{Bool, true, _&&_}
+use mathlib.Core.Bool.{Bool, true, not, _&&_}
 use mathlib.Core.List.{List, [], _∷_, _++_, map, append-nil}
 use lib.ListN.{length, getD, drop, length-append}
 use lib.Seq.{drop-cons}
@@ -13,15 +13,15 @@ use Rattle.policy.specs.declared.header.Found.{Found}
 use Rattle.policy.specs.declared.header.Found.the-variants.{Nothing}
 use Rattle.policy.specs.declared.entry.Entry.{Entry}
 use Rattle.policy.specs.Row.{Row, fits}
-use Rattle.policy.specs.Box.{range, inside, meet}
+use Rattle.policy.specs.Box.{range, inside, proper, meet}
 use Rattle.policy.specs.Header.{arity, widths, fields, Box, lies, Headers, inAny, among, sizesOf, fulls, everything}
 use Rattle.policy.specs.Found.{lesser, minOver, minFrom}
 use Rattle.policy.specs.Least.{least, leastIn}
 use Rattle.policy.specs.Policy.{missed}
-use Rattle.policy.proofs.Bool.{and-intro, and-right, or-left, or-right}
+use Rattle.policy.proofs.Bool.{not-true, and-intro, and-right, or-left, or-right}
 use Rattle.policy.proofs.Box.{within-by, meet-is}
 use Rattle.policy.proofs.Least.{among-fits, agree, min-from, lesser-last}
-use Rattle.policy.proofs.Branch.{over-set}
+use Rattle.policy.proofs.Branch.{crossed-none, over-set}
 use Rattle.wire.proofs.Entries.{length-entries}
 use Rattle.region.specs.Records.{recordsIn}
 use Rattle.region.specs.Corner.{Within, meeting}
@@ -53,6 +53,11 @@ module _ (hs : Headers) (P : Header → Bool) (x : Box) (best : Found) where
 
       back : (i : ℕ) → 0 < i → suc (i - 1) ≡ i
       back i l = omega arith
+
+  -- the part holds no header
+  pub set-crossed : (found : Found) (i : ℕ) (d p q : Box) (t : Bool) → 0 < i → i ≤ length (hs .boxes) → SoFar hs P x best i found
+      → q ≡ getD (hs .boxes) (i - 1) d → p ≡ meet arity x q → t ≡ proper arity p → not t ≡ true → SoFar hs P x best (i - 1) found
+  set-crossed found i d p q t l m h e g r n = set-again found found i d p q l m h e g (ap (λ (r : Found). lesser r found) (sym (crossed-none hs P p (sym r ∙ not-true n))))
 
   pub set-all : (found : Found) (i : ℕ) → i ≤ 0 → SoFar hs P x best i found → found ≡ lesser (leastIn hs x P) best
   set-all found i l h =

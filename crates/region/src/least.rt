@@ -66,7 +66,11 @@ pub(crate) fn least_open(a: &[u8], b: &[u8], x: Region, best: Found) -> Found
     let mut i = HEADER_BOXES;
     while 0 < i {
         i -= 1;
-        found = least_in_part(a, b, inside_part(x, header_box(i)), found, left);
+        let part = inside_part(x, header_box(i));
+        if !is_proper(part) {
+            continue;
+        }
+        found = least_in_part(a, b, part, found, left);
     }
     found
 }

@@ -5,7 +5,6 @@ use policy::actions::is_subset;
 use policy::header::Found;
 use policy::region::Region;
 use policy::region::inside_part;
-use policy::region::is_proper;
 use std::num::wrapping_add_u32;
 use wire::format::RECORD_SIZE;
 use wire::record::read_actions;
@@ -73,11 +72,12 @@ fn with_entry(front: &[u8], records: &[u8], at: usize, x: Region, best: Found) -
     requires { ⌜ at + recordSize ≤ length (now records) ⌝ }
     ensures { λ r. ⌜ r ≡ lesser (leastIn headers (meet arity (ranges x) (selector (entryAt (now (records .entry)) at))) (missed (recordsIn (now (front .entry)) ++ recordsIn (take at (now (records .entry)))))) best ⌝ }
 {
-    let part = inside_part(x, read_selector(records, at));
-    if !is_proper(part) {
-        return best;
-    }
-    least_open(front, &records[0..at], part, best)
+    least_open(
+        front,
+        &records[0..at],
+        inside_part(x, read_selector(records, at)),
+        best,
+    )
 }
 
 // The lesser of best and the least header of x that no record of front matches, and that the list of records allows a wanted set;

@@ -8,7 +8,7 @@ use borrow.Author.Needs.{needs}
 use Rattle.policy.specs.Policy.{missed}
 use Rattle.policy.specs.Header.{headers, ranges, everything}
 use Rattle.region.specs.Records.{recordsIn}
-use Rattle.region.proofs.Union.{SoFar, set-again, set-all, part-headers, records-few}
+use Rattle.region.proofs.Union.{SoFar, set-again, set-crossed, set-all, part-headers, records-few}
 use Rattle.region.proofs.least.least_open.Statement.{statement}
 use Rattle.region.proofs.least.least_open.Tie as tie
 
@@ -33,14 +33,26 @@ header-box-requires c κs = omega arith
 inside-part-requires : tie.Need-inside-part-requires Inv-loop μ-loop
 inside-part-requires c κs = search needs
 
-least-in-part-requires : tie.Need-least-in-part-requires Inv-loop μ-loop
-least-in-part-requires c κs = (part-headers headers (ranges (c .before .before .before .before .before .before .args .x)) everything (ranges (c .inside-part .result)) (ranges (c .before .header-box .result)) (c .before .before .before .loop .i - 1) (omega arith) (c .before .header-box .ensures) (c .inside-part .ensures), search records-few)
+is-proper-requires : tie.Need-is-proper-requires Inv-loop μ-loop
+is-proper-requires c κs = search needs
 
 loop-less : tie.Need-loop-less Inv-loop μ-loop
 loop-less c = omega arith
 
 loop-again : tie.Need-loop-again Inv-loop μ-loop
-loop-again c = (omega arith, search set-again)
+loop-again c = (omega arith, search set-crossed)
+
+least-in-part-requires : tie.Need-least-in-part-requires Inv-loop μ-loop
+least-in-part-requires c κs = 
+    let a = c .before .before .before .before .before .before .before .before .args in
+    let i = c .before .before .before .before .before .loop .i - 1 in
+    (part-headers headers (ranges (a .x)) everything (ranges (c .before .before .inside-part .result)) (ranges (c .before .before .before .header-box .result)) i (omega arith) (c .before .before .before .header-box .ensures) (c .before .before .inside-part .ensures), search records-few)
+
+loop-less-2 : tie.Need-loop-less-2 Inv-loop μ-loop
+loop-less-2 c = omega arith
+
+loop-again-2 : tie.Need-loop-again-2 Inv-loop μ-loop
+loop-again-2 c = (omega arith, search set-again)
 
 returns : tie.Need-returns Inv-loop μ-loop
 returns c = search set-all
@@ -56,7 +68,10 @@ least-open-spec =
     sub-i
     header-box-requires
     inside-part-requires
-    least-in-part-requires
+    is-proper-requires
     loop-less
     loop-again
+    least-in-part-requires
+    loop-less-2
+    loop-again-2
     returns)
