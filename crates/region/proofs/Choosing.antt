@@ -4,36 +4,28 @@ use Prim.Native.Nat.{ℕ, zero, suc, _<_, _≤_, _-_, _+_, _*_, _/_}
 use native.Mathlib.Omega.{arith}
 use mathlib.Core.Path.{_≡_, refl, sym, _∙_, ap, subst}
 use mathlib.Core.Logic.{inl, inr}
-use mathlib.Core.Bool.{Bool, true, false, not}
+use mathlib.Core.Bool.{Bool, true, false, not, _&&_}
 use mathlib.Core.List.{List, [], _∷_, _++_}
+use lib.Dec.{leb}
 use lib.ListN.{length}
+use borrow.Author.Tests.{leb-true}
+use Rattle.policy.specs.declared.header.Header.{Header}
 use Rattle.policy.specs.declared.entry.Entry.{Entry}
 use Rattle.policy.specs.declared.region.Region.{Region}
-use Rattle.policy.specs.Box.{lows}
-use Rattle.policy.specs.Header.{arity, header, Box, ranges}
-use Rattle.policy.specs.Entry.{selector}
+use Rattle.policy.specs.declared.region.Range.{Range}
+use Rattle.policy.specs.Row.{Row}
+use Rattle.policy.specs.Box.{within, inside, lows}
+use Rattle.policy.specs.Header.{arity, fields, header, Box, lies, ranges}
+use Rattle.policy.specs.Entry.{selector, matches}
 use Rattle.policy.specs.Policy.{missed}
-use Rattle.policy.proofs.Bool.{not-false, and-intro}
+use Rattle.policy.proofs.Bool.{not-false, and-intro, and-left, and-right}
+use Rattle.policy.proofs.Box.{within-by, low-le, le-high}
 use Rattle.policy.proofs.Policy.{missed-append, missed-cons}
 use Rattle.wire.specs.Format.{recordSize, entryAt, entriesFrom}
 use Rattle.region.specs.declared.pick.Picked.{Picked}
-use Rattle.region.specs.declared.pick.Picked.the-variants.{Held, Free}
+use Rattle.region.specs.declared.pick.Picked.the-variants.{Held, Free, Covered}
 use Rattle.region.specs.Records.{recordsIn}
-use Rattle.region.specs.Corner.{holds, OneOf, Picks, Chooses, Better, Either}
-
--- ---- one of two picks
-
-pub either-free : (c d : Picked) → c ≡ Free → Either c d d
-either-free c d e = subst (λ (t : Picked). Either t d d) (sym e) refl
-
-pub either-one : (c d : Picked) (s : Region) → c ≡ Held s → d ≡ Free → Either c d (Held s)
-either-one c d s e p = subst (λ (t : Picked). Either t d (Held s)) (sym e) (subst (λ (t : Picked). Either (Held s) t (Held s)) (sym p) refl)
-
-pub either-first : (c d : Picked) (s u : Region) → c ≡ Held s → d ≡ Held u → Either c d (Held s)
-either-first c d s u e p = subst (λ (t : Picked). Either t d (Held s)) (sym e) (subst (λ (t : Picked). Either (Held s) t (Held s)) (sym p) (inl refl))
-
-pub either-second : (c d : Picked) (s u : Region) → c ≡ Held s → d ≡ Held u → Either c d (Held u)
-either-second c d s u e p = subst (λ (t : Picked). Either t d (Held u)) (sym e) (subst (λ (t : Picked). Either (Held s) t (Held u)) (sym p) (inr refl))
+use Rattle.region.specs.Corner.{holds, OneOf, reaches, Covers, Picks, Chooses, Better}
 
 -- ---- two lists
 
@@ -49,18 +41,43 @@ among-right : (s : Box) (es ds : List Entry) → OneOf s ds → OneOf s (es ++ d
 among-right s [] ds a = a
 among-right s (e ∷ es) ds a = inr (among-right s es ds a)
 
-pub picks-both : (es ds : List Entry) (b : Box) (c d r : Picked) → Picks es b c → Picks ds b d → Either c d r → Picks (es ++ ds) b r
-picks-both es ds b c d r p q o = go c p d q o
-  where
-    right : (s : Region) → Picks ds b (Held s) → Picks (es ++ ds) b (Held s)
-    right s q = (q .0, among-right (ranges s) es ds (q .1))
+pub picks-right : (es ds : List Entry) (b : Box) (s : Region) → Picks ds b (Held s) → Picks (es ++ ds) b (Held s)
+picks-right es ds b s p = (p .0, among-right (ranges s) es ds (p .1))
 
-    go : (c : Picked) → Picks es b c → (d : Picked) → Picks ds b d → Either c d r → Picks (es ++ ds) b r
-    go Free p Free q o = subst (Picks (es ++ ds) b) (sym o) (missed-append es ds (header (lows arity b)) ∙ and-intro p q)
-    go Free p (Held u) q o = subst (Picks (es ++ ds) b) (sym o) (right u q)
-    go (Held s) p Free q o = subst (Picks (es ++ ds) b) (sym o) (picks-left es ds b s p)
-    go (Held s) p (Held u) q (inl o) = subst (Picks (es ++ ds) b) (sym o) (picks-left es ds b s p)
-    go (Held s) p (Held u) q (inr o) = subst (Picks (es ++ ds) b) (sym o) (right u q)
+pub picks-free : (es ds : List Entry) (b : Box) → Picks es b Free → Picks ds b Free → Picks (es ++ ds) b Free
+picks-free es ds b p q = missed-append es ds (header (lows arity b)) ∙ and-intro p q
+
+pub covers-left : (es ds : List Entry) (b : Box) → Covers es b → Covers (es ++ ds) b
+covers-left es ds b c h i = missed-append es ds h ∙ ap (_&& missed ds h) (c h i)
+
+pub covers-right : (es ds : List Entry) (b : Box) → Covers ds b → Covers (es ++ ds) b
+covers-right es ds b c h i = missed-append es ds h ∙ ap (missed es h &&_) (c h i) ∙ no (missed es h)
+  where
+    no : (t : Bool) → (t && false) ≡ false
+    no true = refl
+    no false = refl
+
+-- ---- a record that holds a box
+
+-- it holds the low corner and reaches the ends
+inside-all : (k : ℕ) (s b : Row Range k) (x : Row ℕ k) → inside k s (lows k b) ≡ true → reaches k s b ≡ true → inside k b x ≡ true → inside k s x ≡ true
+inside-all zero s b x i r j = refl
+inside-all (suc k) s b x i r j =
+    let low = low-le (s .0) (b .0 .low) (and-left (within (s .0) (b .0 .low)) (inside k (s .1) (lows k (b .1))) i) in
+    let high = leb-true (b .0 .high) (s .0 .high) (and-left (leb (b .0 .high) (s .0 .high)) (reaches k (s .1) (b .1)) r) in
+    let here = and-left (within (b .0) (x .0)) (inside k (b .1) (x .1)) j in
+    and-intro (within-by (s .0) (x .0) (omega (arith, low, low-le (b .0) (x .0) here)) (omega (arith, high, le-high (b .0) (x .0) here)))
+    (inside-all k (s .1) (b .1) (x .1) (and-right (within (s .0) (b .0 .low)) (inside k (s .1) (lows k (b .1))) i) (and-right (leb (b .0 .high) (s .0 .high)) (reaches k (s .1) (b .1)) r) (and-right (within (b .0) (x .0)) (inside k (b .1) (x .1)) j))
+
+-- one of the entries holds the header
+one-catches : (s : Box) (es : List Entry) (h : Header) → OneOf s es → lies s h ≡ true → missed es h ≡ false
+one-catches s [] h a i = absurd a
+one-catches s (e ∷ es) h (inl p) i = missed-cons e es h ∙ ap (λ (t : Bool). not t && missed es h) (ap (λ (b : Box). lies b h) (sym p) ∙ i)
+one-catches s (e ∷ es) h (inr a) i = missed-cons e es h ∙ ap (not (matches e h) &&_) (one-catches s es h a i) ∙ no (not (matches e h))
+  where
+    no : (t : Bool) → (t && false) ≡ false
+    no true = refl
+    no false = refl
 
 -- ---- the records of a slice, from the last to the first
 
@@ -117,22 +134,30 @@ module _ (s : List ℕ) (b : Box) where
   choose-found i n r k l c = (c .0, λ g. absurd (omega arith))
 
   -- the choice, read
-  pub chosen-held : (r : ℕ) (q : Region) → Chooses s b r → r < count → ranges q ≡ selector (entryAt s (recordSize * r)) → Picks (recordsIn s) b (Held q)
-  chosen-held r q c l e = (ap (λ (p : Box). holds p b) e ∙ c .0 l, one-of count 0 r l (e ∙ ap (λ (at : ℕ). selector (entryAt s at)) (sym (from-zero r))))
+  one-of : (q : Box) (r : ℕ) → r < count → q ≡ selector (entryAt s (recordSize * r)) → OneOf q (recordsIn s)
+  one-of q r l e = go count 0 r l (e ∙ ap (λ (at : ℕ). selector (entryAt s at)) (sym (from-zero r)))
     where
       from-zero : (r : ℕ) → 0 + recordSize * r ≡ recordSize * r
       from-zero r = omega arith
 
-      one-of : (n at r : ℕ) → r < n → ranges q ≡ selector (entryAt s (at + recordSize * r)) → OneOf (ranges q) (entriesFrom s at n)
-      one-of zero at r l e = absurd (omega arith)
-      one-of (suc n) at zero l e = inl (e ∙ ap (λ (j : ℕ). selector (entryAt s j)) (here at))
+      go : (n at r : ℕ) → r < n → q ≡ selector (entryAt s (at + recordSize * r)) → OneOf q (entriesFrom s at n)
+      go zero at r l e = absurd (omega arith)
+      go (suc n) at zero l e = inl (e ∙ ap (λ (j : ℕ). selector (entryAt s j)) (here at))
         where
           here : (at : ℕ) → at + recordSize * 0 ≡ at
           here at = omega arith
-      one-of (suc n) at (suc r) l e = inr (one-of n (at + recordSize) r (omega arith) (e ∙ ap (λ (j : ℕ). selector (entryAt s j)) (there at r)))
+      go (suc n) at (suc r) l e = inr (go n (at + recordSize) r (omega arith) (e ∙ ap (λ (j : ℕ). selector (entryAt s j)) (there at r)))
         where
           there : (at r : ℕ) → at + recordSize * suc r ≡ at + recordSize + recordSize * r
           there at r = omega arith
+
+  pub chosen-held : (r : ℕ) (q : Region) → Chooses s b r → r < count → ranges q ≡ selector (entryAt s (recordSize * r)) → Picks (recordsIn s) b (Held q)
+  chosen-held r q c l e = (ap (λ (p : Box). holds p b) e ∙ c .0 l, one-of (ranges q) r l e)
+
+  pub chosen-covers : (r : ℕ) → Chooses s b r → r < count → reaches arity (selector (entryAt s (recordSize * r))) b ≡ true → Covers (recordsIn s) b
+  chosen-covers r c l w h i =
+      one-catches (selector (entryAt s (recordSize * r))) (recordsIn s) h (one-of (selector (entryAt s (recordSize * r))) r l refl)
+      (inside-all arity (selector (entryAt s (recordSize * r))) b (fields h) (c .0 l) w i)
 
   pub chosen-free : (r : ℕ) → Chooses s b r → count ≤ r → Picks (recordsIn s) b Free
   chosen-free r c l = c .1 l

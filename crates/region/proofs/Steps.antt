@@ -3,24 +3,25 @@
 use Prim.Native.Nat.{ℕ, _<_, _≤_, _-_}
 use native.Mathlib.Omega.{arith}
 use mathlib.Core.Path.{_≡_, refl, sym, _∙_, ap, subst}
-use mathlib.Core.Bool.{Bool, true, false}
+use mathlib.Core.Bool.{Bool, true, false, _&&_}
 use mathlib.Core.List.{List}
 use Rattle.policy.specs.declared.header.Header.{Header}
 use Rattle.policy.specs.declared.header.Found.{Found}
-use Rattle.policy.specs.declared.header.Found.the-variants.{At}
+use Rattle.policy.specs.declared.header.Found.the-variants.{At, Nothing}
 use Rattle.policy.specs.declared.region.Region.{Region}
 use Rattle.policy.specs.declared.entry.Entry.{Entry}
 use Rattle.policy.specs.Box.{inside, proper, lows}
 use Rattle.policy.specs.Cut.{above}
-use Rattle.policy.specs.Header.{arity, fields, header, Box, Headers, ranges}
+use Rattle.policy.specs.Header.{arity, fields, header, Box, lies, Headers, ranges}
 use Rattle.policy.specs.Found.{lesser}
 use Rattle.policy.specs.Least.{leastIn}
 use Rattle.policy.specs.Policy.{missed}
+use Rattle.policy.proofs.Bool.{is-false, clash, and-left, and-right}
 use Rattle.policy.proofs.Box.{in-proper}
-use Rattle.policy.proofs.Least.{lesser-assoc}
+use Rattle.policy.proofs.Least.{least-none, lesser-assoc}
 use Rattle.policy.proofs.Branch.{crossed-none, corner}
 use Rattle.region.specs.declared.pick.Picked.{Picked}
-use Rattle.region.specs.declared.pick.Picked.the-variants.{Held, Free}
+use Rattle.region.specs.declared.pick.Picked.the-variants.{Held, Free, Covered}
 use Rattle.region.specs.Corner.{Within, improves, holds, Picks, meeting}
 use Rattle.region.specs.Pieces.{upTo, atField, Short, Next}
 use Rattle.region.proofs.Split.{split, upper-part, upper-outside, lower-part, lower-lows, lower-holds, shorts, shorts-fall}
@@ -39,11 +40,19 @@ pub record Ready (hs : Headers) (es : List Entry) (s b : Box) (left : ℕ) : Typ
 abbrev pub Same : Headers → List Entry → Box → Found → Box → Found → Type 0
 Same hs es x best rest found = lesser (leastIn hs x (missed es)) best ≡ lesser (leastIn hs rest (missed es)) found
 
+-- none of the box is missed
+covered-none : (hs : Headers) (P : Header → Bool) (b : Box) → ((h : Header) → lies b h ≡ true → P h ≡ false) → leastIn hs b P ≡ Nothing
+unfolding leastIn
+covered-none hs P b c = least-none hs (λ h. lies b h && P h) λ g a. is-false (lies b g && P g) λ i. clash (and-right (lies b g) (P g) i) (c g (and-left (lies b g) (P g) i))
+
 module _ (hs : Headers) (es : List Entry) where
   -- ---- the answers
 
   pub found-crossed : (x : Box) (best : Found) (t : Bool) → t ≡ proper arity x → t ≡ false → best ≡ lesser (leastIn hs x (missed es)) best
   found-crossed x best t e p = ap (λ (r : Found). lesser r best) (sym (crossed-none hs (missed es) x (sym e ∙ p)))
+
+  pub found-covered : (x : Box) (best : Found) (r : Picked) → Picks es x r → r ≡ Covered → best ≡ lesser (leastIn hs x (missed es)) best
+  found-covered x best r y q = ap (λ (r : Found). lesser r best) (sym (covered-none hs (missed es) x (subst (Picks es x) q y)))
 
   pub found-pruned : (x : Box) (best : Found) (c : Header) (t : Bool) → c ≡ header (lows arity x) → t ≡ improves c best → t ≡ false
       → best ≡ lesser (leastIn hs x (missed es)) best

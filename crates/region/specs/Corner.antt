@@ -1,14 +1,17 @@
 -- The low corner of a box: which record holds it, and how many records meet the box.
-use Prim.Native.Nat.{ℕ, _+_, _*_, _/_, _≤_, _<_}
+use Prim.Native.Nat.{ℕ, zero, suc, _+_, _*_, _/_, _≤_, _<_}
 use mathlib.Core.Path.{_≡_}
 use mathlib.Core.Logic.{_⊎_}
-use mathlib.Core.Bool.{Bool, true, false, cond}
+use mathlib.Core.Bool.{Bool, true, false, cond, _&&_}
 use mathlib.Core.List.{List, [], _∷_}
+use lib.Dec.{leb}
 use lib.ListN.{length}
 use Rattle.policy.specs.declared.header.Header.{Header}
 use Rattle.policy.specs.declared.header.Found.{Found}
 use Rattle.policy.specs.declared.header.Found.the-variants.{At, Nothing}
 use Rattle.policy.specs.declared.entry.Entry.{Entry}
+use Rattle.policy.specs.declared.region.Range.{Range}
+use Rattle.policy.specs.Row.{Row}
 use Rattle.policy.specs.Box.{inside, proper, lows, meet}
 use Rattle.policy.specs.Header.{arity, header, before, Box, lies, Headers, among, ranges}
 use Rattle.policy.specs.Entry.{selector}
@@ -16,7 +19,7 @@ use Rattle.policy.specs.Policy.{missed}
 use Rattle.wire.specs.Format.{recordSize, entryAt}
 use Rattle.region.specs.Records.{recordsIn}
 use Rattle.region.specs.declared.pick.Picked.{Picked}
-use Rattle.region.specs.declared.pick.Picked.the-variants.{Held, Free}
+use Rattle.region.specs.declared.pick.Picked.the-variants.{Held, Free, Covered}
 
 -- the header comes before the finding
 abbrev pub improves : Header → Found → Bool
@@ -36,10 +39,20 @@ abbrev pub OneOf : Box → List Entry → Type 0
 OneOf s [] = ⊥
 OneOf s (e ∷ es) = (s ≡ selector e) ⊎ OneOf s es
 
--- a selector of the list that holds the low corner of b, or none does
+-- no range of s ends before that of b
+abbrev pub reaches : (k : ℕ) → Row Range k → Row Range k → Bool
+reaches zero s b = true
+reaches (suc k) s b = leb (b .0 .high) (s .0 .high) && reaches k (s .1) (b .1)
+
+-- the entries miss no header of b
+abbrev pub Covers : List Entry → Box → Type 0
+Covers es b = (h : Header) → lies b h ≡ true → missed es h ≡ false
+
+-- a selector of the list that holds the low corner of b; or none does; or none of b is missed
 abbrev pub Picks : List Entry → Box → Picked → Type 0
 Picks es b (Held s) = (holds (ranges s) b ≡ true) × OneOf (ranges s) es
 Picks es b Free = missed es (header (lows arity b)) ≡ true
+Picks es b Covered = Covers es b
 
 -- record number i of the slice holds the low corner of b; where there is no such number, no record does
 abbrev pub Chooses : List ℕ → Box → ℕ → Type 0
@@ -50,12 +63,6 @@ Chooses s b i =
 -- number i is taken, or the old choice stays, if it is one among n
 abbrev pub Better : ℕ → ℕ → ℕ → ℕ → Type 0
 Better i n old new = (new ≡ i) ⊎ ((new ≡ old) × (old < n))
-
--- one of two picks, and free only if both are
-abbrev pub Either : Picked → Picked → Picked → Type 0
-Either Free d r = r ≡ d
-Either (Held s) Free r = r ≡ Held s
-Either (Held s) (Held u) r = (r ≡ Held s) ⊎ (r ≡ Held u)
 
 -- how many of the entries meet the box
 abbrev pub meeting : List Entry → Box → ℕ

@@ -39,6 +39,9 @@ fn least_in_part(a: &[u8], b: &[u8], x: Region, best: Found, left: usize) -> Fou
                 Picked::Free => {
                     return Found::At(c);
                 }
+                Picked::Covered => {
+                    return best;
+                }
                 Picked::Held(s) => {
                     let ranks = rank_fields(a, b, x, s);
                     let mut rest = x;

@@ -13,17 +13,19 @@ ghost use mathlib.Core.Path.{_≡_};
 ghost use mathlib.Core.Bool.{true};
 ghost use mathlib.Core.List.{_++_};
 ghost use Prim.Native.Nat.{_+_, _*_, _/_, _≤_, _<_};
-ghost use lib.ListN.{length};
-ghost use Rattle.policy.specs.Header.{ranges};
+ghost use lib.Dec.{leb};
+ghost use lib.ListN.{length, getD};
+ghost use Rattle.policy.specs.Header.{arity, ranges};
 ghost use Rattle.policy.specs.Entry.{selector};
-ghost use Rattle.wire.specs.Format.{recordSize, entryAt};
+ghost use Rattle.wire.specs.Format.{recordSize, number2, number4, entryAt};
 ghost use Rattle.region.specs.Records.{recordsIn};
-ghost use Rattle.region.specs.Corner.{holds, Picks, Chooses, Better, Either};
+ghost use Rattle.region.specs.Corner.{holds, Picks, Chooses, Better, reaches, Covers};
 
-// The selector of a record that holds a corner, or no record holds it.
+// The selector of a record that holds the low corner of a region; or no record holds it; or a record holds all of the region.
 pub enum Picked {
     Held(Region),
     Free,
+    Covered,
 }
 
 // The number of a record that holds a corner, with its weight; or the number of records, if none does.
@@ -130,34 +132,57 @@ fn choose(s: &[u8], b: Region, full: f64) -> Choice
     best
 }
 
-// A choice, read.
-fn chosen(s: &[u8], b: Region, c: Choice) -> Picked
-    requires { ⌜ Chooses (now s) (ranges b) (c .number) ⌝ }
-    ensures { λ r. ⌜ Picks (recordsIn (now (s .entry))) (ranges b) r ⌝ }
+// Whether the number at a place is at least x, as a number of 4, 2 and 1 bytes.
+fn is_up_to4(s: &[u8], at: usize, x: u32) -> bool
+    requires { ⌜ at + 4 ≤ length (now s) ⌝ }
+    ensures { λ t. ⌜ t ≡ leb x (number4 (now (s .entry)) at) ⌝ }
 {
-    if c.number < s.len() / RECORD_SIZE {
-        return Picked::Held(read_selector(s, RECORD_SIZE * c.number));
-    }
-    Picked::Free
+    x <= read4(s, at)
 }
 
-// The first of two picks if it is one and is wanted, and else the second.
-fn either(c: Picked, d: Picked, first: bool) -> Picked
-    ensures { λ r. ⌜ Either c d r ⌝ }
+fn is_up_to2(s: &[u8], at: usize, x: u32) -> bool
+    requires { ⌜ at + 2 ≤ length (now s) ⌝ }
+    ensures { λ t. ⌜ t ≡ leb x (number2 (now (s .entry)) at) ⌝ }
 {
-    match c {
-        Picked::Free => d,
-        Picked::Held(s) => match d {
-            Picked::Free => Picked::Held(s),
-            Picked::Held(u) => {
-                if first {
-                    Picked::Held(s)
-                } else {
-                    Picked::Held(u)
-                }
-            }
-        },
+    x <= read2(s, at) as u32
+}
+
+fn is_up_to1(s: &[u8], at: usize, x: u32) -> bool
+    requires { ⌜ at + 1 ≤ length (now s) ⌝ }
+    ensures { λ t. ⌜ t ≡ leb x (getD (now (s .entry)) at 0) ⌝ }
+{
+    x <= read1(s, at)
+}
+
+// Whether the record at a place ends nowhere before b does.
+fn record_reaches(s: &[u8], at: usize, b: Region) -> bool
+    requires { ⌜ at + recordSize ≤ length (now s) ⌝ }
+    ensures { λ t. ⌜ t ≡ reaches arity (selector (entryAt (now (s .entry)) at)) (ranges b) ⌝ }
+{
+    if !is_up_to4(s, at + 4, b.local.high) {
+        return false;
     }
+    if !is_up_to4(s, at + 12, b.remote.high) {
+        return false;
+    }
+    if !is_up_to2(s, at + 18, b.local_port.high) {
+        return false;
+    }
+    if !is_up_to2(s, at + 22, b.remote_port.high) {
+        return false;
+    }
+    is_up_to1(s, at + 25, b.protocol.high)
+}
+
+// Whether the chosen record holds all of b.
+fn covers(s: &[u8], b: Region, c: Choice, full: f64) -> bool
+    requires { ⌜ Chooses (now s) (ranges b) (c .number) ⌝ }
+    ensures { λ t. ⌜ (t ≡ true → Covers (recordsIn (now (s .entry))) (ranges b)) ⌝ }
+{
+    if is_full(c, s.len() / RECORD_SIZE, full) {
+        return record_reaches(s, RECORD_SIZE * c.number, b);
+    }
+    false
 }
 
 // A record of one of two lists that holds the low corner of x.
@@ -166,9 +191,23 @@ pub(crate) fn pick_of_two(a: &[u8], b: &[u8], x: Region) -> Picked
 {
     let full = full_weight(x);
     let c = choose(a, x, full);
-    if is_full(c, a.len() / RECORD_SIZE, full) {
-        return Picked::Held(read_selector(a, RECORD_SIZE * c.number));
+    if covers(a, x, c, full) {
+        return Picked::Covered;
     }
     let d = choose(b, x, full);
-    either(chosen(a, x, c), chosen(b, x, d), d.weight <= c.weight)
+    if covers(b, x, d, full) {
+        return Picked::Covered;
+    }
+    if c.number < a.len() / RECORD_SIZE {
+        if d.number < b.len() / RECORD_SIZE {
+            if c.weight < d.weight {
+                return Picked::Held(read_selector(b, RECORD_SIZE * d.number));
+            }
+        }
+        return Picked::Held(read_selector(a, RECORD_SIZE * c.number));
+    }
+    if d.number < b.len() / RECORD_SIZE {
+        return Picked::Held(read_selector(b, RECORD_SIZE * d.number));
+    }
+    Picked::Free
 }

@@ -4,11 +4,12 @@ use policy::region::Range;
 use policy::region::Region;
 ghost use Prim.Native.Nat.{_≤_, _<_};
 
-// A number that comes of x and k.
+// A number that comes of x and k. Bits are mixed twice, since a sum alone would tie the numbers for different k to each other.
 pub(crate) fn after(x: u64, k: u64) -> u64 {
-    let a = (x % 4294967296 * 1664525 + k % 65536 * 22695477 + 1013904223) % 4294967296;
-    let b = (a * 1664525 + 1013904223) % 4294967296;
-    b / 256 + b % 256 * 16777216
+    let a = (x % 4294967296 + k % 65536 * 2654435769) % 4294967296;
+    let b = (a ^ (a / 65536)) % 4294967296 * 2146121005 % 4294967296;
+    let c = (b ^ (b / 32768)) % 4294967296 * 2221713035 % 4294967296;
+    (c ^ (c / 65536)) % 4294967296
 }
 
 // 1 to 6 entries.

@@ -48,7 +48,7 @@ fn head_of(n: usize) -> [u8; 5]
 }
 
 // Puts the bytes before the records at the start.
-pub fn put_head(buffer: &mut [u8], n: usize)
+pub(crate) fn put_head(buffer: &mut [u8], n: usize)
     requires { ⌜ (n ≤ listLimit) × (headSize ≤ length (now buffer)) ⌝ }
     ensures { λ _. ⌜ now (buffer .exit) ≡ placed (headOf n) (now (buffer .entry)) ⌝ }
 {

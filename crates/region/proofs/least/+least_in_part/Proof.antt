@@ -10,7 +10,7 @@ use Rattle.policy.specs.Box.{proper}
 use Rattle.policy.proofs.region.is_proper.Reads as is-proper-reads
 use Rattle.region.specs.Pieces.{Next}
 use Rattle.region.specs.Records.{recordsIn}
-use Rattle.region.proofs.Steps.{Ready, Same, ready, found-crossed, found-pruned, found-corner, found-all, piece-headers, piece-few, some-left, lower-ready, same-again, cuts-fall, falls-by, eq-true}
+use Rattle.region.proofs.Steps.{Ready, Same, ready, found-crossed, found-covered, found-pruned, found-corner, found-all, piece-headers, piece-few, some-left, lower-ready, same-again, cuts-fall, falls-by, eq-true}
 use Rattle.region.proofs.Opening.{corner-fits}
 use Rattle.region.proofs.Split.{shorts}
 use Rattle.region.proofs.least.least_in_part.Reads as least-in-part
@@ -69,6 +69,12 @@ least-in-part-enum-told t c = search needs
 least-in-part-returns : (t : ℕ) → least-in-part-lts.Need-returns (ks t) (least-in-part-at t) least-in-part.Post least-in-part-Inv-loop least-in-part-μ-loop
 least-in-part-returns t c = search found-corner
 
+least-in-part-enum-told-2 : (t : ℕ) → least-in-part-lts.Need-enum-told-2 (ks t) (least-in-part-at t) least-in-part.Post least-in-part-Inv-loop least-in-part-μ-loop
+least-in-part-enum-told-2 t c = search needs
+
+least-in-part-returns-2 : (t : ℕ) → least-in-part-lts.Need-returns-2 (ks t) (least-in-part-at t) least-in-part.Post least-in-part-Inv-loop least-in-part-μ-loop
+least-in-part-returns-2 t c = search found-covered
+
 least-in-part-enum-known-picked : (t : ℕ) → least-in-part-lts.Need-enum-known-picked (ks t) (least-in-part-at t) least-in-part.Post least-in-part-Inv-loop least-in-part-μ-loop
 least-in-part-enum-known-picked t c = search needs
 
@@ -112,14 +118,14 @@ least-in-part-loop-again t c = (
   same-again headers (recordsIn (c .before .before .before .before .before .before .before .before .before .before .before .before .before .before .before .before .before .before .before .args .a .now) ++ recordsIn (c .before .before .before .before .before .before .before .before .before .before .before .before .before .before .before .before .before .before .before .args .b .now)) (ranges (c .before .before .before .before .before .before .before .before .before .before .before .before .before .before .before .before .before .before .before .args .x)) _ (c .before .before .before .before .before .before .before .before .before .before .before .pick-of-two .result) (c .before .before .before .before .before .before .before .before .before .before .before .pick-of-two .ensures) (c .before .before .before .before .before .before .before .before .before .picked .given .1) (ranges (c .before .before .before .before .before .loop .rest)) (c .before .before .before .before .before .before .before .before .before .before .before .before .before .before .before .before .before .before .before .args .left) (c .before .before .before .before .before .loop .f) (c .before .before .before .before .before .loop .inv .1) (c .before .before .before .before .before .loop .inv .0) (c .before .before .before .before .before .before .before .before .before .before .before .before .before .before .before .before .before .before .before .args .best) (c .before .before .before .before .before .loop .found) _ _ _ (c .before .before .before .before .loop-test .taken) (c .before .before .before .before .before .loop .inv .2) (c .before .before .before .upper-part .ensures) (c .before .lower-part .ensures) (c .before .before .least-in-part .ensures),
 )
 
-least-in-part-returns-2 : (t : ℕ) → least-in-part-lts.Need-returns-2 (ks t) (least-in-part-at t) least-in-part.Post least-in-part-Inv-loop least-in-part-μ-loop
-least-in-part-returns-2 t c = found-all headers (recordsIn (c .before .before .before .before .before .before .before .before .before .before .before .before .before .before .before .args .a .now) ++ recordsIn (c .before .before .before .before .before .before .before .before .before .before .before .before .before .before .before .args .b .now)) (ranges (c .before .before .before .before .before .before .before .before .before .before .before .before .before .before .before .args .x)) _ (c .before .before .before .before .before .before .before .pick-of-two .result) (c .before .before .before .before .before .before .before .pick-of-two .ensures) (c .before .before .before .before .before .picked .given .1) (ranges (c .before .loop .rest)) (c .before .before .before .before .before .before .before .before .before .before .before .before .before .before .before .args .left) (c .before .loop .f) (c .before .loop .inv .1) (c .before .loop .inv .0) (c .before .before .before .before .before .before .before .before .before .before .before .before .before .before .before .args .best) (c .before .loop .found) (c .loop-test .left) (c .before .loop .inv .2)
-
 least-in-part-returns-3 : (t : ℕ) → least-in-part-lts.Need-returns-3 (ks t) (least-in-part-at t) least-in-part.Post least-in-part-Inv-loop least-in-part-μ-loop
-least-in-part-returns-3 t c = search (found-pruned, found-crossed)
+least-in-part-returns-3 t c = found-all headers (recordsIn (c .before .before .before .before .before .before .before .before .before .before .before .before .before .before .before .args .a .now) ++ recordsIn (c .before .before .before .before .before .before .before .before .before .before .before .before .before .before .before .args .b .now)) (ranges (c .before .before .before .before .before .before .before .before .before .before .before .before .before .before .before .args .x)) _ (c .before .before .before .before .before .before .before .pick-of-two .result) (c .before .before .before .before .before .before .before .pick-of-two .ensures) (c .before .before .before .before .before .picked .given .1) (ranges (c .before .loop .rest)) (c .before .before .before .before .before .before .before .before .before .before .before .before .before .before .before .args .left) (c .before .loop .f) (c .before .loop .inv .1) (c .before .loop .inv .0) (c .before .before .before .before .before .before .before .before .before .before .before .before .before .before .before .args .best) (c .before .loop .found) (c .loop-test .left) (c .before .loop .inv .2)
 
 least-in-part-returns-4 : (t : ℕ) → least-in-part-lts.Need-returns-4 (ks t) (least-in-part-at t) least-in-part.Post least-in-part-Inv-loop least-in-part-μ-loop
 least-in-part-returns-4 t c = search (found-pruned, found-crossed)
+
+least-in-part-returns-5 : (t : ℕ) → least-in-part-lts.Need-returns-5 (ks t) (least-in-part-at t) least-in-part.Post least-in-part-Inv-loop least-in-part-μ-loop
+least-in-part-returns-5 t c = search (found-pruned, found-crossed)
 
 pub +least-in-part-spec : {M : Type 1} → statement M
 +least-in-part-spec = close μ-least-in-part λ t. least-in-part-lts.spec (ks t)
@@ -133,6 +139,8 @@ pub +least-in-part-spec : {M : Type 1} → statement M
     (least-in-part-pick-of-two-requires t)
     (least-in-part-enum-told t)
     (least-in-part-returns t)
+    (least-in-part-enum-told-2 t)
+    (least-in-part-returns-2 t)
     (least-in-part-enum-known-picked t)
     (least-in-part-rank-fields-requires t)
     (least-in-part-next-field-requires t)
@@ -144,6 +152,6 @@ pub +least-in-part-spec : {M : Type 1} → statement M
     (least-in-part-next-field-requires-2 t)
     (least-in-part-loop-less t)
     (least-in-part-loop-again t)
-    (least-in-part-returns-2 t)
     (least-in-part-returns-3 t)
     (least-in-part-returns-4 t)
+    (least-in-part-returns-5 t)

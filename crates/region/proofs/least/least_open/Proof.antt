@@ -43,7 +43,7 @@ loop-again : tie.Need-loop-again Inv-loop μ-loop
 loop-again c = (omega arith, search set-crossed)
 
 least-in-part-requires : tie.Need-least-in-part-requires Inv-loop μ-loop
-least-in-part-requires c κs = 
+least-in-part-requires c κs =
     let a = c .before .before .before .before .before .before .before .before .args in
     let i = c .before .before .before .before .before .loop .i - 1 in
     (part-headers headers (ranges (a .x)) everything (ranges (c .before .before .inside-part .result)) (ranges (c .before .before .before .header-box .result)) i (omega arith) (c .before .before .before .header-box .ensures) (c .before .before .inside-part .ensures), search records-few)

@@ -41,7 +41,7 @@ is-full-requires : tie.Need-is-full-requires Inv-loop μ-loop
 is-full-requires c κs = search needs
 
 returns : tie.Need-returns Inv-loop μ-loop
-returns c = 
+returns c =
     let a = c .before .before .before .before .before .before .before .before .args in
     let l = c .before .before .before .before .before .before .loop in
     choose-found (a .s .now) (ranges (a .b)) (l .i - 1) _ _ refl (c .before .is-full .ensures (c .if2 .taken))
@@ -51,7 +51,7 @@ loop-less-2 : tie.Need-loop-less-2 Inv-loop μ-loop
 loop-less-2 c = omega arith
 
 loop-again-2 : tie.Need-loop-again-2 Inv-loop μ-loop
-loop-again-2 c = 
+loop-again-2 c =
     let a = c .before .before .before .before .before .before .before .before .args in
     let l = c .before .before .before .before .before .before .loop in
     (omega arith, choose-taken (a .s .now) (ranges (a .b)) (l .i) (l .best .number) _ (l .inv .0) (c .before .before .before .before .before .loop-test .taken) (l .inv .1) (c .before .before .before .before .holds-corner .ensures) _ _ refl (c .before .before .before .if1 .left) (c .before .before .better .ensures))

@@ -1,8 +1,7 @@
--- A pick of either list is one of both.
-use native.Mathlib.Omega.{arith}
+-- What is picked of either list is picked of both.
 use Rattle.policy.specs.Header.{ranges}
 use Rattle.region.specs.Records.{recordsIn}
-use Rattle.region.proofs.Choosing.{chosen-held, picks-left, picks-both}
+use Rattle.region.proofs.Choosing.{chosen-held, chosen-free, picks-left, picks-right, picks-free, covers-left, covers-right}
 use borrow.Author.Needs.{needs}
 use Rattle.region.proofs.pick.pick_of_two.Statement.{statement}
 use Rattle.region.proofs.pick.pick_of_two.Tie as tie
@@ -13,35 +12,62 @@ full-weight-requires c κs = search needs
 choose-requires : tie.Need-choose-requires
 choose-requires c κs = search needs
 
-is-full-requires : tie.Need-is-full-requires
-is-full-requires c κs = search needs
-
-mul-read-selector : tie.Need-mul-read-selector
-mul-read-selector c = omega (arith, c .before .before .is-full .ensures (c .before .if1 .taken))
-
-read-selector-requires : tie.Need-read-selector-requires
-read-selector-requires c κs = omega (arith, c .before .before .is-full .ensures (c .before .if1 .taken))
+covers-requires : tie.Need-covers-requires
+covers-requires c κs = search needs
 
 returns : tie.Need-returns
 returns c =
-    let a = c .before .before .before .before .before .before .before .before .args in
-    picks-left (recordsIn (a .a .now)) (recordsIn (a .b .now)) (ranges (a .x)) (c .read-selector .result)
-    (chosen-held (a .a .now) (ranges (a .x)) _ (c .read-selector .result) (c .before .before .before .before .choose .ensures) (c .before .before .before .is-full .ensures (c .before .before .if1 .taken)) (c .read-selector .ensures))
+    let a = c .before .before .before .before .before .before .args in
+    covers-left (recordsIn (a .a .now)) (recordsIn (a .b .now)) (ranges (a .x)) (c .before .covers .ensures (c .if1 .taken))
 
 choose-requires-2 : tie.Need-choose-requires-2
 choose-requires-2 c κs = search needs
 
-chosen-requires : tie.Need-chosen-requires
-chosen-requires c κs = search needs
-
-chosen-requires-2 : tie.Need-chosen-requires-2
-chosen-requires-2 c κs = search needs
-
-either-requires : tie.Need-either-requires
-either-requires c κs = search needs
+covers-requires-2 : tie.Need-covers-requires-2
+covers-requires-2 c κs = search needs
 
 returns-2 : tie.Need-returns-2
-returns-2 c = picks-both _ _ _ (c .before .before .before .before .chosen .result) (c .before .before .before .chosen2 .result) (c .either .result) (c .before .before .before .before .chosen .ensures) (c .before .before .before .chosen2 .ensures) (c .either .ensures)
+returns-2 c =
+    let a = c .before .before .before .before .before .before .before .before .before .args in
+    covers-right (recordsIn (a .a .now)) (recordsIn (a .b .now)) (ranges (a .x)) (c .before .covers2 .ensures (c .if2 .taken))
+
+mul-read-selector : tie.Need-mul-read-selector
+mul-read-selector c = search needs
+
+read-selector-requires : tie.Need-read-selector-requires
+read-selector-requires c κs = search needs
+
+returns-3 : tie.Need-returns-3
+returns-3 c =
+    let a = c .before .before .before .before .before .before .before .before .before .before .before .before .before .before .before .before .before .before .args in
+    picks-right (recordsIn (a .a .now)) (recordsIn (a .b .now)) (ranges (a .x)) _ (search chosen-held)
+
+mul-read-selector-2 : tie.Need-mul-read-selector-2
+mul-read-selector-2 c = search needs
+
+read-selector-requires-2 : tie.Need-read-selector-requires-2
+read-selector-requires-2 c κs = search needs
+
+returns-4 : tie.Need-returns-4
+returns-4 c =
+    let a = c .before .before .before .before .before .before .before .before .before .before .before .before .before .before .before .args in
+    picks-left (recordsIn (a .a .now)) (recordsIn (a .b .now)) (ranges (a .x)) _ (search chosen-held)
+
+mul-read-selector-3 : tie.Need-mul-read-selector-3
+mul-read-selector-3 c = search needs
+
+read-selector-requires-3 : tie.Need-read-selector-requires-3
+read-selector-requires-3 c κs = search needs
+
+returns-5 : tie.Need-returns-5
+returns-5 c =
+    let a = c .before .before .before .before .before .before .before .before .before .before .before .before .before .before .before .args in
+    picks-right (recordsIn (a .a .now)) (recordsIn (a .b .now)) (ranges (a .x)) _ (search chosen-held)
+
+returns-6 : tie.Need-returns-6
+returns-6 c =
+    let a = c .before .before .before .before .before .before .before .before .before .before .before .before .before .args in
+    picks-free (recordsIn (a .a .now)) (recordsIn (a .b .now)) (ranges (a .x)) (search chosen-free) (search chosen-free)
 
 pub pick-of-two-spec : {M : Type 1} → statement M
 pick-of-two-spec =
@@ -49,12 +75,18 @@ pick-of-two-spec =
     (tie.spec
     full-weight-requires
     choose-requires
-    is-full-requires
-    mul-read-selector
-    read-selector-requires
+    covers-requires
     returns
     choose-requires-2
-    chosen-requires
-    chosen-requires-2
-    either-requires
-    returns-2)
+    covers-requires-2
+    returns-2
+    mul-read-selector
+    read-selector-requires
+    returns-3
+    mul-read-selector-2
+    read-selector-requires-2
+    returns-4
+    mul-read-selector-3
+    read-selector-requires-3
+    returns-5
+    returns-6)
