@@ -157,13 +157,30 @@ fn full_size(x: &Box5) -> f64 {
     (0..FIELDS).map(|f| ((x.high[f] - x.low[f]) as f64 + 1.0) * REACHES).product()
 }
 
-/// Where the largest record that holds the low corner of `x` ends in it; one that covers `x` ends
-/// the pick.
+/// Whether a record that holds the low corner of `x` holds all of it.
+#[inline(always)]
+fn reaches(r: &Record, x: &Box5) -> bool {
+    (0..FIELDS).all(|f| x.high[f] <= range(r, f).1)
+}
+
+/// How many records there are up to the last that holds the low corner.
+fn up_to_last(list: &[Record], x: &Box5) -> usize {
+    list.iter().rposition(|r| holds_all(r, &x.low)).map_or(0, |i| i + 1)
+}
+
+/// Where the largest record that holds the low corner of `x` ends in it. Most boxes are covered by
+/// the last such record of a list, so it is looked for before any size is reckoned.
 fn pick(lists: [&[Record]; 2], x: &Box5) -> Option<Header> {
+    let firsts = lists.map(|list| &list[..up_to_last(list, x)]);
+    for list in firsts {
+        if list.last().is_some_and(|r| reaches(r, x)) {
+            return Some(x.high);
+        }
+    }
     let full = full_size(x);
     let mut best = None;
     let mut largest = 0.0;
-    'pick: for list in lists {
+    'pick: for list in firsts {
         for r in list.iter().rev() {
             if holds_all(r, &x.low) {
                 let size = size(r, x);

@@ -25,7 +25,7 @@ use Rattle.wire.specs.Format.{recordSize, entryAt, entriesFrom}
 use Rattle.region.specs.declared.pick.Picked.{Picked}
 use Rattle.region.specs.declared.pick.Picked.the-variants.{Held, Free, Covered}
 use Rattle.region.specs.Records.{recordsIn}
-use Rattle.region.specs.Corner.{holds, OneOf, reaches, Covers, Picks, Chooses, Better}
+use Rattle.region.specs.Corner.{holds, OneOf, reaches, Covers, Picks, HoldsLast, Chooses, Better}
 
 -- ---- two lists
 
@@ -81,33 +81,30 @@ one-catches s (e ∷ es) h (inr a) i = missed-cons e es h ∙ ap (not (matches e
 
 -- ---- the records of a slice, from the last to the first
 
+-- none of the records from number i to before n holds the low corner of b
+abbrev pub Passed : List ℕ → ℕ → Box → ℕ → Type 0
+Passed s n b i = missed (entriesFrom s (recordSize * i) (n - i)) (header (lows arity b)) ≡ true
+
 -- record number r holds the low corner of b; where there is no such number, none from the i-th on does
 abbrev pub ChoosesFrom : List ℕ → Box → ℕ → ℕ → Type 0
 ChoosesFrom s b i r =
     (r < length s / recordSize → holds (selector (entryAt s (recordSize * r))) b ≡ true)
-    × (length s / recordSize ≤ r → missed (entriesFrom s (recordSize * i) (length s / recordSize - i)) (header (lows arity b)) ≡ true)
+    × (length s / recordSize ≤ r → Passed s (length s / recordSize) b i)
 
-module _ (s : List ℕ) (b : Box) where
-  abbrev count : ℕ
-  count = length s / recordSize
-
-  pub choose-start : ChoosesFrom s b count count
-  choose-start = (λ l. absurd (omega arith), λ _. ap (λ (j : ℕ). missed (entriesFrom s (recordSize * count) j) (header (lows arity b))) (none-left count))
+module _ (s : List ℕ) (n : ℕ) (b : Box) where
+  pub passed-none : Passed s n b n
+  passed-none = ap (λ (j : ℕ). missed (entriesFrom s (recordSize * n) j) (header (lows arity b))) (none-left n)
     where
       none-left : (n : ℕ) → n - n ≡ 0
       none-left n = omega arith
 
-  module _ (i old : ℕ) (t : Bool) (l : i ≤ count) (m : 0 < i) (c : ChoosesFrom s b i old) (e : t ≡ holds (selector (entryAt s (recordSize * (i - 1)))) b) where
-    -- the record before does not hold the corner
-    pub choose-passed : not t ≡ true → ChoosesFrom s b (i - 1) old
-    choose-passed n = (
-      c .0,
-      λ g.
-          ap (λ (j : ℕ). missed (entriesFrom s (recordSize * (i - 1)) j) (header (lows arity b))) (one-more count i l m)
-          ∙ ap (λ (j : ℕ). missed (entryAt s (recordSize * (i - 1)) ∷ entriesFrom s j (count - i)) (header (lows arity b))) (next-at i m)
-          ∙ missed-cons (entryAt s (recordSize * (i - 1))) (entriesFrom s (recordSize * i) (count - i)) (header (lows arity b))
-          ∙ and-intro (ap not (sym e) ∙ n) (c .1 g),
-    )
+  module _ (i : ℕ) (t : Bool) (l : i ≤ n) (c : Passed s n b i) (e : t ≡ holds (selector (entryAt s (recordSize * (i - 1)))) b) where
+    pub passed-more : 0 < i → t ≡ false → Passed s n b (i - 1)
+    passed-more m p =
+        ap (λ (j : ℕ). missed (entriesFrom s (recordSize * (i - 1)) j) (header (lows arity b))) (one-more n i l m)
+        ∙ ap (λ (j : ℕ). missed (entryAt s (recordSize * (i - 1)) ∷ entriesFrom s j (n - i)) (header (lows arity b))) (next-at i m)
+        ∙ missed-cons (entryAt s (recordSize * (i - 1))) (entriesFrom s (recordSize * i) (n - i)) (header (lows arity b))
+        ∙ and-intro (ap not (sym e ∙ p)) c
       where
         one-more : (n i : ℕ) → i ≤ n → 0 < i → n - (i - 1) ≡ suc (n - i)
         one-more n i l m = omega arith
@@ -115,10 +112,34 @@ module _ (s : List ℕ) (b : Box) where
         next-at : (i : ℕ) → 0 < i → recordSize * (i - 1) + recordSize ≡ recordSize * i
         next-at i m = omega arith
 
-    -- it does
-    pub choose-taken : (n new : ℕ) → n ≡ count → not t ≡ false → Better (i - 1) n old new → ChoosesFrom s b (i - 1) new
-    choose-taken n new k p (inl q) = (λ _. ap (λ (r : ℕ). holds (selector (entryAt s (recordSize * r))) b) q ∙ sym e ∙ not-false p, λ g. absurd (omega arith))
-    choose-taken n new k p (inr q) = (λ g. ap (λ (r : ℕ). holds (selector (entryAt s (recordSize * r))) b) (q .0) ∙ c .0 (omega (arith, q .1)), λ g. absurd (omega (arith, q .0, q .1)))
+    pub last-found : t ≡ true → HoldsLast s n b i
+    last-found p = (l, (λ _. sym e ∙ p, c))
+
+  pub last-none : (i : ℕ) → i ≤ 0 → Passed s n b i → HoldsLast s n b 0
+  last-none i l c = (omega arith, (λ m. absurd (omega arith), ap (λ (j : ℕ). missed (entriesFrom s (recordSize * j) (n - j)) (header (lows arity b))) (sym (at-zero i l)) ∙ c))
+    where
+      at-zero : (k : ℕ) → k ≤ 0 → k ≡ 0
+      at-zero k l = omega arith
+
+module _ (s : List ℕ) (b : Box) where
+  abbrev count : ℕ
+  count = length s / recordSize
+
+  -- the last that holds the corner was found, and nothing is chosen
+  pub choose-start : (i : ℕ) → HoldsLast s count b i → ChoosesFrom s b i count
+  choose-start i h = (λ l. absurd (omega arith), λ _. h .1 .1)
+
+  -- after a record that holds the corner, something is chosen
+  pub choose-taken : (i n old new : ℕ) → n ≡ count → i ≤ count → 0 < i → (0 < i → holds (selector (entryAt s (recordSize * (i - 1)))) b ≡ true) → ChoosesFrom s b i old
+      → Better (i - 1) n old new → (new < count) × (holds (selector (entryAt s (recordSize * new))) b ≡ true)
+  choose-taken i n old new k l m h c (inl q) = (omega arith, ap (λ (r : ℕ). holds (selector (entryAt s (recordSize * r))) b) q ∙ h m)
+  choose-taken i n old new k l m h c (inr q) = (omega (arith, q .0, q .1), ap (λ (r : ℕ). holds (selector (entryAt s (recordSize * r))) b) (q .0) ∙ c .0 (omega (arith, q .1)))
+
+  pub choose-found : (r : ℕ) → (r < count) × (holds (selector (entryAt s (recordSize * r))) b ≡ true) → Chooses s b r
+  choose-found r c = (λ _. c .1, λ g. absurd (omega (arith, c .0)))
+
+  pub choose-again : (i r : ℕ) → (r < count) × (holds (selector (entryAt s (recordSize * r))) b ≡ true) → ChoosesFrom s b i r
+  choose-again i r c = (λ _. c .1, λ g. absurd (omega (arith, c .0)))
 
   pub choose-end : (i r : ℕ) → i ≤ 0 → ChoosesFrom s b i r → Chooses s b r
   choose-end i r l c = (c .0, λ g. ap (λ (j : ℕ). missed (entriesFrom s 0 j) (header (lows arity b))) (sym (less-none count)) ∙ ap (λ (j : ℕ). missed (entriesFrom s (recordSize * j) (count - j)) (header (lows arity b))) (sym (at-zero i l)) ∙ c .1 g)
@@ -128,10 +149,6 @@ module _ (s : List ℕ) (b : Box) where
 
       at-zero : (k : ℕ) → k ≤ 0 → k ≡ 0
       at-zero k l = omega arith
-
-  -- one is enough
-  pub choose-found : (i n r : ℕ) → n ≡ count → r < n → ChoosesFrom s b i r → Chooses s b r
-  choose-found i n r k l c = (c .0, λ g. absurd (omega arith))
 
   -- the choice, read
   one-of : (q : Box) (r : ℕ) → r < count → q ≡ selector (entryAt s (recordSize * r)) → OneOf q (recordsIn s)
@@ -158,6 +175,9 @@ module _ (s : List ℕ) (b : Box) where
   chosen-covers r c l w h i =
       one-catches (selector (entryAt s (recordSize * r))) (recordsIn s) h (one-of (selector (entryAt s (recordSize * r))) r l refl)
       (inside-all arity (selector (entryAt s (recordSize * r))) b (fields h) (c .0 l) w i)
+
+  pub last-covers : (i : ℕ) → HoldsLast s count b i → 0 < i → reaches arity (selector (entryAt s (recordSize * (i - 1)))) b ≡ true → Covers (recordsIn s) b
+  last-covers i h l w = chosen-covers (i - 1) (λ _. h .1 .0 l, λ m. absurd (omega (arith, h .0))) (omega (arith, h .0)) w
 
   pub chosen-free : (r : ℕ) → Chooses s b r → count ≤ r → Picks (recordsIn s) b Free
   chosen-free r c l = c .1 l

@@ -1,5 +1,5 @@
 -- The low corner of a box: which record holds it, and how many records meet the box.
-use Prim.Native.Nat.{ℕ, zero, suc, _+_, _*_, _/_, _≤_, _<_}
+use Prim.Native.Nat.{ℕ, zero, suc, _+_, _-_, _*_, _/_, _≤_, _<_}
 use mathlib.Core.Path.{_≡_}
 use mathlib.Core.Logic.{_⊎_}
 use mathlib.Core.Bool.{Bool, true, false, cond, _&&_}
@@ -16,7 +16,7 @@ use Rattle.policy.specs.Box.{inside, proper, lows, meet}
 use Rattle.policy.specs.Header.{arity, header, before, Box, lies, Headers, among, ranges}
 use Rattle.policy.specs.Entry.{selector}
 use Rattle.policy.specs.Policy.{missed}
-use Rattle.wire.specs.Format.{recordSize, entryAt}
+use Rattle.wire.specs.Format.{recordSize, entryAt, entriesFrom}
 use Rattle.region.specs.Records.{recordsIn}
 use Rattle.region.specs.declared.pick.Picked.{Picked}
 use Rattle.region.specs.declared.pick.Picked.the-variants.{Held, Free, Covered}
@@ -59,6 +59,13 @@ abbrev pub Chooses : List ℕ → Box → ℕ → Type 0
 Chooses s b i =
     (i < length s / recordSize → holds (selector (entryAt s (recordSize * i))) b ≡ true)
     × (length s / recordSize ≤ i → missed (recordsIn s) (header (lows arity b)) ≡ true)
+
+-- of the first n records: the last of the first i holds the low corner of b, if i is not 0, and none behind it does
+abbrev pub HoldsLast : List ℕ → ℕ → Box → ℕ → Type 0
+HoldsLast s n b i =
+    (i ≤ n)
+    × ((0 < i → holds (selector (entryAt s (recordSize * (i - 1)))) b ≡ true)
+    × (missed (entriesFrom s (recordSize * i) (n - i)) (header (lows arity b)) ≡ true))
 
 -- number i is taken, or the old choice stays, if it is one among n
 abbrev pub Better : ℕ → ℕ → ℕ → ℕ → Type 0

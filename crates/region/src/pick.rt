@@ -10,7 +10,7 @@ use wire::number::read2;
 use wire::number::read4;
 use wire::record::read_selector;
 ghost use mathlib.Core.Path.{_≡_};
-ghost use mathlib.Core.Bool.{true};
+ghost use mathlib.Core.Bool.{true, false};
 ghost use mathlib.Core.List.{_++_};
 ghost use Prim.Native.Nat.{_+_, _*_, _/_, _≤_, _<_};
 ghost use lib.Dec.{leb};
@@ -19,7 +19,7 @@ ghost use Rattle.policy.specs.Header.{arity, ranges};
 ghost use Rattle.policy.specs.Entry.{selector};
 ghost use Rattle.wire.specs.Format.{recordSize, number2, number4, entryAt};
 ghost use Rattle.region.specs.Records.{recordsIn};
-ghost use Rattle.region.specs.Corner.{holds, Picks, Chooses, Better, reaches, Covers};
+ghost use Rattle.region.specs.Corner.{holds, Picks, HoldsLast, Chooses, Better, reaches, Covers};
 
 // The selector of a record that holds the low corner of a region; or no record holds it; or a record holds all of the region.
 pub enum Picked {
@@ -109,8 +109,24 @@ fn is_full(c: Choice, n: usize, full: f64) -> bool
     false
 }
 
-// A record of s that holds the low corner of b, from the last to the first, as far as one of full weight.
-fn choose(s: &[u8], b: Region, full: f64) -> Choice
+// How many of the first n records of s there are up to the last that holds the low corner of b; 0 if none does.
+fn up_to_last(s: &[u8], n: usize, b: Region) -> usize
+    requires { ⌜ n ≤ length (now s) / recordSize ⌝ }
+    ensures { λ r. ⌜ HoldsLast (now (s .entry)) n (ranges b) r ⌝ }
+{
+    let mut i = n;
+    while 0 < i {
+        if holds_corner(s, RECORD_SIZE * (i - 1), b) {
+            return i;
+        }
+        i -= 1;
+    }
+    0
+}
+
+// A record of s that holds the low corner of b. The last of the first ones does, and none behind it: from there, as far as one of full weight.
+fn choose(s: &[u8], first: usize, b: Region, full: f64) -> Choice
+    requires { ⌜ HoldsLast (now s) (length (now s) / recordSize) (ranges b) first ⌝ }
     ensures { λ r. ⌜ Chooses (now (s .entry)) (ranges b) (r .number) ⌝ }
 {
     let n = s.len() / RECORD_SIZE;
@@ -118,16 +134,13 @@ fn choose(s: &[u8], b: Region, full: f64) -> Choice
         number: n,
         weight: 0.0,
     };
-    let mut i = n;
+    let mut i = first;
     while 0 < i {
-        i -= 1;
-        if !holds_corner(s, RECORD_SIZE * i, b) {
-            continue;
-        }
-        best = better(s, i, n, b, best);
+        best = better(s, i - 1, n, b, best);
         if is_full(best, n, full) {
             return best;
         }
+        i = up_to_last(s, i - 1, b);
     }
     best
 }
@@ -185,29 +198,72 @@ fn covers(s: &[u8], b: Region, c: Choice, full: f64) -> bool
     false
 }
 
-// A record of one of two lists that holds the low corner of x.
-pub(crate) fn pick_of_two(a: &[u8], b: &[u8], x: Region) -> Picked
+// Whether the last record that holds the low corner of b holds all of b.
+fn last_covers(s: &[u8], first: usize, b: Region) -> bool
+    requires { ⌜ HoldsLast (now s) (length (now s) / recordSize) (ranges b) first ⌝ }
+    ensures { λ t. ⌜ (t ≡ true → Covers (recordsIn (now (s .entry))) (ranges b)) ⌝ }
+{
+    if 0 < first {
+        return record_reaches(s, RECORD_SIZE * (first - 1), b);
+    }
+    false
+}
+
+// The selector of record number i.
+fn numbered(s: &[u8], i: usize) -> Region
+    requires { ⌜ i < length (now s) / recordSize ⌝ }
+    ensures { λ r. ⌜ ranges r ≡ selector (entryAt (now (s .entry)) (recordSize * i)) ⌝ }
+{
+    read_selector(s, RECORD_SIZE * i)
+}
+
+// Whether the choice c among n records goes before the choice d among m: it is one, and d is none or no heavier.
+fn is_first(c: Choice, n: usize, d: Choice, m: usize) -> bool
+    ensures { λ t. ⌜ (t ≡ true → c .number < n) × (t ≡ false → m ≤ d .number → n ≤ c .number) ⌝ }
+{
+    if c.number < n {
+        if d.number < m {
+            return d.weight <= c.weight;
+        }
+        return true;
+    }
+    false
+}
+
+// A record of one of two lists that holds the low corner of x, by weight.
+fn pick_by_weight(a: &[u8], i: usize, b: &[u8], j: usize, x: Region) -> Picked
+    requires { ⌜ HoldsLast (now a) (length (now a) / recordSize) (ranges x) i × HoldsLast (now b) (length (now b) / recordSize) (ranges x) j ⌝ }
     ensures { λ r. ⌜ Picks (recordsIn (now (a .entry)) ++ recordsIn (now (b .entry))) (ranges x) r ⌝ }
 {
     let full = full_weight(x);
-    let c = choose(a, x, full);
+    let c = choose(a, i, x, full);
     if covers(a, x, c, full) {
         return Picked::Covered;
     }
-    let d = choose(b, x, full);
+    let d = choose(b, j, x, full);
     if covers(b, x, d, full) {
         return Picked::Covered;
     }
-    if c.number < a.len() / RECORD_SIZE {
-        if d.number < b.len() / RECORD_SIZE {
-            if c.weight < d.weight {
-                return Picked::Held(read_selector(b, RECORD_SIZE * d.number));
-            }
-        }
-        return Picked::Held(read_selector(a, RECORD_SIZE * c.number));
+    if is_first(c, a.len() / RECORD_SIZE, d, b.len() / RECORD_SIZE) {
+        return Picked::Held(numbered(a, c.number));
     }
     if d.number < b.len() / RECORD_SIZE {
-        return Picked::Held(read_selector(b, RECORD_SIZE * d.number));
+        return Picked::Held(numbered(b, d.number));
     }
     Picked::Free
+}
+
+// A record of one of two lists that holds the low corner of x. Most boxes are held by one record: it is looked for before any weight is reckoned.
+pub(crate) fn pick_of_two(a: &[u8], b: &[u8], x: Region) -> Picked
+    ensures { λ r. ⌜ Picks (recordsIn (now (a .entry)) ++ recordsIn (now (b .entry))) (ranges x) r ⌝ }
+{
+    let i = up_to_last(a, a.len() / RECORD_SIZE, x);
+    if last_covers(a, i, x) {
+        return Picked::Covered;
+    }
+    let j = up_to_last(b, b.len() / RECORD_SIZE, x);
+    if last_covers(b, j, x) {
+        return Picked::Covered;
+    }
+    pick_by_weight(a, i, b, j, x)
 }
