@@ -4,7 +4,7 @@ use outside::baseline::{lookup, lookup_unpacked, unpack};
 use outside::entry::{file, Header, List};
 use outside::generate::{header_near, realistic_list, Sets};
 use outside::model::catching;
-use outside::page::{maybe_time, ratio, time, Table};
+use outside::page::{maybe_time, ratio, Table};
 use outside::product::Product;
 use outside::random::Random;
 
@@ -15,6 +15,8 @@ use crate::times::{each, Job, BYTES};
 static RATIO: Target = Target { words: "lookup: at most 1.2 times Rust over the bytes", most: 1.2 };
 static TABLE: Target =
     Target { words: "lookup in a table: at most 1.2 times Rust over structs", most: 1.2 };
+
+const STRUCTS: &str = "Rust, structs";
 
 const SIZES: [usize; 5] = [10, 32, 64, 128, 256];
 
@@ -93,18 +95,63 @@ fn lookup_times(product: &Product, list: &List, headers: &[Header]) -> Lookups {
     }
 }
 
-/// Notes the ratios of a row.
-fn note(page: &mut Page, row: &str, times: &Lookups) {
-    for (job, ours, other, beside, target) in [
-        ("lookup of the number", times.number, times.rust, BYTES, &RATIO),
-        ("lookup of the part", times.part, times.rust, BYTES, &RATIO),
-        ("lookup in a table", times.table, times.structs, "Rust, structs", &TABLE),
-    ] {
-        if let Some(ours) = ours {
-            page.compare(job, beside, row, ours / other);
-            page.hold(target, row, ours / other);
+/// One lookup of the product, and the two that stand beside it.
+struct Beside {
+    title: &'static str,
+    job: &'static str,
+    ours: fn(&Lookups) -> Option<f64>,
+    others: [(&'static str, fn(&Lookups) -> Option<f64>); 2],
+    /// Of the ratio to one of the two.
+    target: (usize, &'static Target),
+}
+
+static KINDS: [Beside; 3] = [
+    Beside {
+        title: "The entry's number, in a file",
+        job: "lookup of the number",
+        ours: |t| t.number,
+        others: [(BYTES, |t| Some(t.rust)), (STRUCTS, |t| Some(t.structs))],
+        target: (0, &RATIO),
+    },
+    Beside {
+        title: "The record's part, in a file",
+        job: "lookup of the part",
+        ours: |t| t.part,
+        others: [(BYTES, |t| Some(t.rust)), (STRUCTS, |t| Some(t.structs))],
+        target: (0, &RATIO),
+    },
+    Beside {
+        title: "In a table",
+        job: "lookup in a table",
+        ours: |t| t.table,
+        others: [("number, in a file", |t| t.number), (STRUCTS, |t| Some(t.structs))],
+        target: (1, &TABLE),
+    },
+];
+
+/// The table of one lookup; its ratios are noted.
+fn one_kind(page: &mut Page, kind: &Beside, rows: &[(String, String, Lookups)]) {
+    let [(first, _), (second, _)] = kind.others;
+    let columns = ["list and headers", "entry", "product", first, "ratio", second, "ratio"];
+    let mut table = Table::new(&columns);
+    for (name, entry, times) in rows {
+        let ours = (kind.ours)(times);
+        let mut cells = vec![name.clone(), entry.clone(), maybe_time(ours)];
+        for (which, (beside, other)) in kind.others.iter().enumerate() {
+            let other = other(times);
+            cells.push(maybe_time(other));
+            cells.push(other.map_or("–".to_string(), |other| ratio(ours, other)));
+            if let (Some(ours), Some(other)) = (ours, other) {
+                page.compare(kind.job, beside, name, ours / other);
+                if kind.target.0 == which {
+                    page.hold(kind.target.1, name, ours / other);
+                }
+            }
         }
+        table.row(cells);
     }
+    page.say(&format!("### {}\n", kind.title));
+    page.say(&table.text());
 }
 
 pub fn lookups(page: &mut Page, product: &Product) {
@@ -113,33 +160,23 @@ pub fn lookups(page: &mut Page, product: &Product) {
         "Of twenty realistic lists the one whose last entries catch the most; the mean over 64 \
          headers at and beside the ends of its ranges, and over the 64 of 2,000 that are caught \
          last. \"Entry\" is the mean number of the entry that catches them. Number and part check \
-         the file first, as 01 says, and so does the Rust version over the bytes. The table is of \
-         structs with the fields' own widths, and is lent to both.\n",
+         the file first, as 01 says, and so does the Rust version over the bytes; the Rust \
+         version over structs checks nothing. The table is of structs with the fields' own \
+         widths, and is lent to both.\n",
     );
-    let columns = ["number", BYTES, "ratio", "part", "ratio", "table", "Rust, structs", "ratio"];
-    let mut table = Table::new(&[&["list and headers", "entry"], &columns[..]].concat());
+    let mut rows = vec![];
     for n in SIZES {
         for (last, word) in [(false, "mixed"), (true, "caught last")] {
             let (list, mut random) = list_of(n);
             let headers = headers_for(&list, last, &mut random);
-            let name = format!("{n} entries, {word}");
+            let entry = format!("{:.0}", depth(&list, &headers));
             let times = lookup_times(product, &list, &headers);
-            note(page, &name, &times);
-            table.row(vec![
-                name,
-                format!("{:.0}", depth(&list, &headers)),
-                maybe_time(times.number),
-                time(times.rust),
-                ratio(times.number, times.rust),
-                maybe_time(times.part),
-                ratio(times.part, times.rust),
-                maybe_time(times.table),
-                time(times.structs),
-                ratio(times.table, times.structs),
-            ]);
+            rows.push((format!("{n} entries, {word}"), entry, times));
         }
     }
-    page.say(&table.text());
+    for kind in &KINDS {
+        one_kind(page, kind, &rows);
+    }
 }
 
 pub fn growth(growth: &mut Growth, product: &Product) {
