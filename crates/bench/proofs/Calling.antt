@@ -1,37 +1,34 @@
 -- What the branches of the calls show: the answer, the bench handed back, and that it goes on with any list of calls that led here.
 -- Assumes nothing.
-use Prim.Native.Nat.{ℕ, zero, suc, _+_, _-_, _<_, _≤_}
+use Prim.Native.Nat.{ℕ, _+_, _-_, _<_, _≤_}
 use native.Mathlib.Omega.{arith}
 use native.Mathlib.Numerals.{add-one}
-use mathlib.Core.Path.{_≡_, refl, sym, _∙_, ap, ap₂, subst}
+use mathlib.Core.Path.{_≡_, refl, sym, _∙_, ap, subst}
 use mathlib.Core.Bool.{Bool, true, false, cond}
-use mathlib.Core.List.{List, [], _∷_, _++_, map, append-nil}
+use mathlib.Core.List.{List, [], _∷_, _++_, append-nil}
 use mathlib.Core.Option.{Option, none, some}
-use lib.Dec.{ltb, eqb}
+use lib.Dec.{eqb}
 use lib.ListN.{length, getD, take, drop, set, replicate, length-map, List·getD-map}
 use lib.Seq.{take-suc, take-all}
-use native.Mathlib.Nat.{le-of-eq}
-use borrow.Author.Tests.{eq-eqb, ne-eqb, lt-ltb, le-ltb}
+use borrow.Author.Tests.{eq-eqb, ne-eqb}
 use Rattle.policy.specs.declared.entry.Entry.{Entry}
 use Rattle.policy.specs.declared.refusal.Refusal.{Refusal}
 use Rattle.policy.specs.declared.refusal.Refusal.the-variants.{Party, Vacant}
 use Rattle.policy.specs.Header.{headers}
-use Rattle.policy.specs.Refusals.{Answer, refusal, accepted, isAccepted, refuse, firstOf}
+use Rattle.policy.specs.Refusals.{Answer, refusal, accepted, isAccepted, refuse}
 use Rattle.policy.proofs.Rows.{refusal-refuses, turns-away, goes-past}
 use Rattle.wire.specs.declared.check.Checked.{Checked}
 use Rattle.wire.specs.declared.check.Checked.the-variants.{Good, Refused}
 use Rattle.wire.specs.Format.{filedLimit, countIn, fileSize}
-use Rattle.wire.specs.Checks.{outside, checked}
+use Rattle.wire.specs.Checks.{checked}
 use Rattle.wire.proofs.Checks.{within-limits, none-outside, past-outside}
 use Rattle.region.specs.Records.{recordsIn}
 use Rattle.region.specs.ListChecks.{listChecks, listChecksOf}
 use Rattle.region.proofs.ListChecks.{good-passes, passes-tell}
 use Rattle.reconcile.specs.declared.ending.Merged.{Merged}
 use Rattle.reconcile.specs.declared.ending.Merged.the-variants as ending
-use Rattle.reconcile.specs.declared.stage.Stage.{Stage}
-use Rattle.reconcile.specs.Crossproduct.{In}
-use Rattle.reconcile.specs.Rules.{Merging, mergeOf}
-use Rattle.reconcile.specs.Stage.{stage, stageOf, added, addedAll, ended}
+use Rattle.reconcile.specs.Rules.{Working, Merging}
+use Rattle.reconcile.specs.Stage.{addedAll, ended}
 use Rattle.reconcile.specs.Ending as end
 use Rattle.reconcile.proofs.Staging.{stages-next, stages-end}
 use Rattle.bench.specs.declared.slots.Slot.{Slot}
@@ -172,16 +169,16 @@ each-snoc P [] x e f = f
 each-snoc P (none ∷ k) x e f = each-snoc P k x e f
 each-snoc P (some p ∷ k) x e f = (e .0, each-snoc P k x (e .1) f)
 
--- the stage holds the lists of the first i slots, whose numbers fit their widths
-abbrev pub Staged : Bench → ℕ → Stage → Type 0
-Staged b i s = (s ≡ stageOf (addedAll headers none (inForce (take i (bookOf b))))) × EachSlot AllFit (take i (bookOf b))
+-- the working list is that of the first i slots, whose lists' numbers fit their widths
+abbrev pub Staged : Bench → ℕ → Option Working → Type 0
+Staged b i w = (w ≡ addedAll headers none (inForce (take i (bookOf b)))) × EachSlot AllFit (take i (bookOf b))
 
-pub staged-none : (b : Bench) (s : Stage) → s ≡ stageOf none → Staged b 0 s
-staged-none b s e = (e, tt)
+pub staged-none : (b : Bench) → Staged b 0 none
+staged-none b = (refl, tt)
 
-pub staged-next : (b : Bench) (i : ℕ) (s r : Stage) → length (b .slots) ≡ 8 → i < 8 → Staged b i s
-    → (r ≡ afterSlot s (getD (b .slots) i noSlot)) × SlotFits (listInSlot (getD (b .slots) i noSlot)) → Staged b (i + 1) r
-staged-next b i s r n l e f = subst (λ (k : Book). (r ≡ stageOf (addedAll headers none (inForce k))) × EachSlot AllFit k) (sym more) (one (listInSlot (getD (b .slots) i noSlot)) (f .0) (f .1))
+pub staged-next : (b : Bench) (i : ℕ) (w v : Option Working) → length (b .slots) ≡ 8 → i < 8 → Staged b i w
+    → (v ≡ afterSlot w (getD (b .slots) i noSlot)) × SlotFits (listInSlot (getD (b .slots) i noSlot)) → Staged b (i + 1) v
+staged-next b i w v n l e f = subst (λ (k : Book). (v ≡ addedAll headers none (inForce k)) × EachSlot AllFit k) (sym more) (one (listInSlot (getD (b .slots) i noSlot)) (f .0) (f .1))
   where
     k : Book
     k = take i (bookOf b)
@@ -195,28 +192,25 @@ staged-next b i s r n l e f = subst (λ (k : Book). (r ≡ stageOf (addedAll hea
         ∙ take-suc (bookOf b) i none (long (length (bookOf b)) (length-map (b .slots) listInSlot ∙ n))
         ∙ ap (λ (x : Option (List Entry)). k ++ x ∷ []) (List·getD-map listInSlot (b .slots) i noSlot)
 
-    one : (x : Option (List Entry)) → r ≡ stageWith s x → SlotFits x
-        → (r ≡ stageOf (addedAll headers none (inForce (k ++ x ∷ [])))) × EachSlot AllFit (k ++ x ∷ [])
-    one none q g =
-        (q ∙ e .0 ∙ ap (λ (ps : List (List Entry)). stageOf (addedAll headers none ps)) (sym (inForce-snoc k none ∙ append-nil (inForce k))), each-snoc AllFit k none (e .1) tt)
-    one (some p) q g =
-        (stages-next (inForce k) p s r (e .0) q ∙ ap (λ (ps : List (List Entry)). stageOf (addedAll headers none ps)) (sym (inForce-snoc k (some p))), each-snoc AllFit k (some p) (e .1) (g, tt))
+    one : (x : Option (List Entry)) → v ≡ stageWith w x → SlotFits x → (v ≡ addedAll headers none (inForce (k ++ x ∷ []))) × EachSlot AllFit (k ++ x ∷ [])
+    one none q g = (q ∙ e .0 ∙ ap (addedAll headers none) (sym (inForce-snoc k none ∙ append-nil (inForce k))), each-snoc AllFit k none (e .1) tt)
+    one (some p) q g = (stages-next (inForce k) p w v (e .0) q ∙ ap (addedAll headers none) (sym (inForce-snoc k (some p))), each-snoc AllFit k (some p) (e .1) (g, tt))
 
 abbrev pub MergedRight : Bench → List ℕ → MergeAnswer → List ℕ → Bench → Type 0
 MergedRight b buffer a after r =
     ((r ≡ b) × _≡_ {A = Answer × List ℕ} (mergedAs a, after) (mergingOf (bookOf b) buffer))
     × ((cs : List Call) → benchAfter cs ≡ b → (benchAfter (cs ++ (merging buffer ∷ [])) ≡ r) × Demand3 (inForce (bookAfter cs)) buffer (mergedAs a) after)
 
-module _ (b : Bench) (buffer after : List ℕ) (i : ℕ) (s : Stage) (n : length (b .slots) ≡ 8) (l : 8 ≤ i) (m : i ≤ 8) (e : Staged b i s) where
+module _ (b : Bench) (buffer after : List ℕ) (i : ℕ) (w : Option Working) (n : length (b .slots) ≡ 8) (l : 8 ≤ i) (m : i ≤ 8) (e : Staged b i w) where
   whole : take i (bookOf b) ≡ bookOf b
   whole = take-all i (bookOf b) (long (length (bookOf b)) (length-map (b .slots) listInSlot ∙ n))
     where
       long : (k : ℕ) → k ≡ 8 → k ≤ i
       long k e = omega arith
 
-  merging-is : end.mergingOf (ended headers (stage s)) buffer ≡ mergingOf (bookOf b) buffer
+  merging-is : end.mergingOf (ended headers w) buffer ≡ mergingOf (bookOf b) buffer
   merging-is = ap (λ (x : Merging). end.mergingOf x buffer)
-      (stages-end (inForce (bookOf b)) s (e .0 ∙ ap (λ (k : Book). stageOf (addedAll headers none (inForce k))) whole))
+      (stages-end (inForce (bookOf b)) w (e .0 ∙ ap (λ (k : Book). addedAll headers none (inForce k)) whole))
 
   right : (a : MergeAnswer) → _≡_ {A = Answer × List ℕ} (mergedAs a, after) (mergingOf (bookOf b) buffer) → MergedRight b buffer a after b
   right a q = ((refl, q), λ cs c. (leads-on b b (merging buffer) refl cs c, demand cs c))
@@ -228,7 +222,7 @@ module _ (b : Bench) (buffer after : List ℕ) (i : ℕ) (s : Stage) (n : length
           (demand-3 buffer (inForce (bookAfter cs)) (all-covering cs)
           (reads-back (inForce (bookAfter cs)) (in-force AllFit (bookAfter cs) (subst (EachSlot AllFit) (whole ∙ k) (e .1)))))
 
-  module _ (x : Merged) (f : end.merging x after ≡ end.mergingOf (ended headers (stage s)) buffer) where
+  module _ (x : Merged) (f : end.merging x after ≡ end.mergingOf (ended headers w) buffer) where
     pub merge-done : (c d : ℕ) → x ≡ ending.Done c d → MergedRight b buffer (merge.Merged c d) after b
     merge-done c d q = right (merge.Merged c d) (ap (λ (y : Merged). end.merging y after) (sym q) ∙ f ∙ merging-is)
 

@@ -6,7 +6,8 @@ use crate::slots::vacant_slot;
 use policy::refusal::Refusal;
 use reconcile::ending::Merged;
 use reconcile::ending::end_merging;
-use reconcile::stage::no_lists;
+use reconcile::packed::PACKED_SIZE;
+use reconcile::stage::Stage;
 use region::covering::check_list;
 use wire::check::Checked;
 use wire::format::FILED_LIMIT;
@@ -67,7 +68,7 @@ impl Bench {
     }
 
     // Files a list for a party, over the one that it has.
-    pub fn file(self, party: u8, bytes: &[u8]) -> FileResult
+    pub fn file(mut self, party: u8, bytes: &[u8]) -> FileResult
         ensures { λ r. ⌜ (filed (r .answer) ≡ filingOf party (now (bytes .entry))) × (r .bench ≡ benchFiled self party (now (bytes .entry))) ⌝ }
         ensures traced { λ r. ⌜ ((cs : List Call) → benchAfter cs ≡ self → benchAfter (cs ++ (filing party (now (bytes .entry)) ∷ [])) ≡ r .bench) ⌝ }
     {
@@ -92,10 +93,9 @@ impl Bench {
             Checked::Good(n) => {
                 let at = (party - 1) as usize;
                 let slot = slot_with(bytes);
-                let mut next = self;
-                next.slots[at] = slot;
+                self.slots[at] = slot;
                 FileResult {
-                    bench: next,
+                    bench: self,
                     answer: FileAnswer::Filed(n),
                 }
             }
@@ -103,7 +103,7 @@ impl Bench {
     }
 
     // Ends a party's list.
-    pub fn withdraw(self, party: u8) -> WithdrawResult
+    pub fn withdraw(mut self, party: u8) -> WithdrawResult
         ensures { λ r. ⌜ (withdrew (r .answer) ≡ withdrawalOf (bookOf self) party) × (r .bench ≡ benchWithdrawn self party) ⌝ }
         ensures traced { λ r. ⌜ ((cs : List Call) → benchAfter cs ≡ self → benchAfter (cs ++ (withdrawal party ∷ [])) ≡ r .bench) ⌝ }
     {
@@ -128,10 +128,9 @@ impl Bench {
             };
         }
         let slot = vacant_slot();
-        let mut next = self;
-        next.slots[at] = slot;
+        self.slots[at] = slot;
         WithdrawResult {
-            bench: next,
+            bench: self,
             answer: WithdrawAnswer::Withdrawn,
         }
     }
@@ -143,14 +142,15 @@ impl Bench {
             → (benchAfter (cs ++ (merging (now (out .entry)) ∷ [])) ≡ r .bench)
             × Demand3 (inForce (bookAfter cs)) (now (out .entry)) (mergedAs (r .answer)) (now (out .exit))) ⌝ }
     {
-        let mut stage = no_lists();
+        let mut packed = [0u8; PACKED_SIZE];
+        let mut stage = Stage::Bare;
         let mut i: usize = 0;
         while i < 8 {
             let slot = self.slots[i];
-            stage = add_slot(stage, slot);
+            stage = add_slot(&mut packed, stage, slot);
             i += 1;
         }
-        let merged = end_merging(stage, out);
+        let merged = end_merging(&mut packed, stage, out);
         match merged {
             Merged::Done { count, length } => MergeResult {
                 bench: self,

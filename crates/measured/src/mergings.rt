@@ -31,8 +31,7 @@ fn filed_bench(input: &[u8]) -> Bench {
         let start = from + 1;
         let end = file_end(input, start);
         let f = bench.file(party, &input[start..end]);
-        let next = f.bench;
-        bench = next;
+        bench = f.bench;
         from = end;
     }
     bench

@@ -1,15 +1,13 @@
--- The end of a merging: the working list is packed, and what striking leaves is written.
+-- The end of a merging: what striking leaves of the working list is written.
 -- Assumes nothing.
-use Prim.Native.Nat.{ℕ, _+_, _*_, _-_, _<_, _≤_, min}
+use Prim.Native.Nat.{ℕ, _+_, _*_, _-_, _<_, _≤_}
 use native.Mathlib.Omega.{arith}
-use native.Mathlib.Numerals.{add-one}
 use mathlib.Core.Path.{_≡_, refl, sym, _∙_, ap}
 use mathlib.Core.Bool.{Bool, false}
-use mathlib.Core.List.{List, [], _∷_, _++_}
+use mathlib.Core.List.{List, [], _∷_}
 use mathlib.Core.Option.{some}
 use lib.Dec.{ltb}
-use lib.ListN.{length, take, drop, getD}
-use lib.Seq.{take-suc}
+use lib.ListN.{length, take, drop}
 use borrow.Author.Tests.{lt-ltb, le-ltb}
 use Rattle.policy.specs.declared.header.Header.{Header}
 use Rattle.policy.specs.declared.header.Found.{Found}
@@ -20,47 +18,20 @@ use Rattle.policy.specs.Header.{Headers, headers}
 use Rattle.policy.specs.Least.{least}
 use Rattle.policy.specs.Policy.{allowed}
 use Rattle.policy.specs.Refusals.{Answer, refusal, accepted, refuse, refuseAt, firstOf}
-use Rattle.wire.specs.declared.list.Entries.{Entries}
 use Rattle.wire.specs.Format.{headSize, recordSize, listLimit, entriesFrom, fileSize, fileOf}
 use Rattle.wire.specs.Answers.{ifAccepted}
-use Rattle.wire.specs.Lists.{held}
 use Rattle.wire.specs.Writing.{placed, tooNarrow}
 use Rattle.wire.proofs.Entries.{length-entries}
-use Rattle.wire.proofs.Lists.{zeroEntry}
 use Rattle.region.specs.Records.{recordsIn}
-use Rattle.reconcile.specs.declared.stage.Phase.{Phase}
-use Rattle.reconcile.specs.declared.stage.Phase.the-variants as phase
+use Rattle.reconcile.specs.declared.stage.Stage.{Stage}
+use Rattle.reconcile.specs.declared.stage.Stage.the-variants as Stage
 use Rattle.reconcile.specs.declared.ending.Merged.the-variants.{Done, Refused}
-use Rattle.reconcile.specs.Rules.{isEmpty, Working, list, crowded, working, conflictOf, Merging, merged, struck, settled, finished, mergeOf}
-use Rattle.reconcile.specs.Packed.{Put, Packs, Strikes}
+use Rattle.reconcile.specs.Rules.{isEmpty, Working, list, crowded, working, conflictOf, Merging, merged, settled, finished, mergeOf}
+use Rattle.reconcile.specs.Packed.{workingIn, Strikes}
 use Rattle.reconcile.specs.Stage.{stageIn, ended}
 use Rattle.reconcile.specs.Ending.{answerOf, mergingOf, merging, isCrowded, leftOf, workingOf, mergeChecks}
-use Rattle.reconcile.proofs.Packing.{put-next, entries-of-part, records-of-front}
-use Rattle.reconcile.proofs.Staging.{same-take, held-within}
-
--- ---- packing
-
-pub packed-none : (s : List ℕ) (es : List Entry) → entriesFrom s 0 0 ≡ take 0 es
-packed-none s es = refl
-
-pub packed-next : (s r : List ℕ) (i : ℕ) (es : List Entry) → entriesFrom s 0 i ≡ take i es → i < length es → Put s i (getD es i zeroEntry) r
-    → entriesFrom r 0 (i + 1) ≡ take (i + 1) es
-packed-next s r i es q l p =
-    put-next s i (getD es i zeroEntry) r p
-    ∙ ap (_++ getD es i zeroEntry ∷ []) q
-    ∙ sym (take-suc es i zeroEntry l)
-    ∙ ap (λ (j : ℕ). take j es) (sym (add-one i))
-
-pub packed-all : (w : Entries) (s r : List ℕ) (n i : ℕ) → n ≡ min (w .count) listLimit → i ≤ n → n ≤ i → length (w .entries) ≡ listLimit
-    → entriesFrom r 0 i ≡ take i (w .entries) → length r ≡ length s → Packs w s r n
-packed-all w s r n i e l m z q c = record {
-  records = ap (entriesFrom r 0) (sym same) ∙ q ∙ same-take i (min (w .count) listLimit) (w .entries) (same ∙ e) ∙ held-within w z;
-  most = omega arith;
-  size = c;
-}
-  where
-    same : i ≡ n
-    same = omega arith
+use Rattle.reconcile.proofs.Packing.{entries-of-part, records-of-front}
+use Rattle.reconcile.proofs.Staging.{working-crowded, working-list}
 
 -- ---- writing
 
@@ -89,36 +60,37 @@ module _ (s b : List ℕ) (n : ℕ) where
 
 -- ---- a working list is brought to its end
 
-module _ (w : Entries) (s r : List ℕ) (n : ℕ) (f : Found) (p : Packs w s r n) (z : length s ≡ recordSize * listLimit)
-    (q : f ≡ least headers (λ h. isEmpty (allowed (recordsIn (take (recordSize * n - 0) (drop 0 r))) h))) where
-  ends-as : ended headers (some (list (held w))) ≡ settled headers f (held w)
-  ends-as =
-      ap (λ (l : List Entry). settled headers (least headers λ h. isEmpty (allowed l h)) (held w))
-      (sym (records-of-front r n (omega (arith, p .most, p .size)) ∙ p .records))
-      ∙ ap (λ (g : Found). settled headers g (held w)) (sym q)
+module _ (s : List ℕ) (n : ℕ) (b : List ℕ) where
+  pub ends-crowded : listLimit < n → merging (Refused Crowded) b ≡ mergingOf (ended headers (some (workingIn s n))) b
+  ends-crowded l = sym (ap (λ (w : Working). mergingOf (ended headers (some w)) b) (working-crowded s n l))
 
-  pub ends-conflict : (h : Header) (b : List ℕ) → f ≡ At h → merging (Refused (Conflict h)) b ≡ mergingOf (ended headers (some (list (held w)))) b
-  ends-conflict h b e = sym (ap (λ (m : Merging). mergingOf m b) (ends-as ∙ ap (λ (g : Found). settled headers g (held w)) e))
+  module _ (f : Found) (z : length s ≡ recordSize * listLimit) (l : n ≤ listLimit)
+      (q : f ≡ least headers (λ h. isEmpty (allowed (recordsIn (take (recordSize * n - 0) (drop 0 s))) h))) where
+    ends-as : ended headers (some (workingIn s n)) ≡ settled headers f (entriesFrom s 0 n)
+    ends-as =
+        ap (λ (w : Working). ended headers (some w)) (working-list s n l)
+        ∙ ap (λ (p : List Entry). settled headers (least headers λ h. isEmpty (allowed p h)) (entriesFrom s 0 n)) (sym (records-of-front s n (omega arith)))
+        ∙ ap (λ (g : Found). settled headers g (entriesFrom s 0 n)) (sym q)
 
-  pub ends-merged : (t : List ℕ) (top : ℕ) (b : List ℕ) (x : Answer × List ℕ) → f ≡ Nothing → Strikes r n t top
-      → x ≡ mergingOf (merged (entriesFrom (take (recordSize * n - recordSize * top) (drop (recordSize * top) t)) 0 (n - top))) b
-      → x ≡ mergingOf (ended headers (some (list (held w)))) b
-  ends-merged t top b x e k y =
-      y
-      ∙ ap (λ (l : List Entry). mergingOf (merged l) b) (entries-of-part t top n ∙ k .left ∙ ap (struck headers) (p .records))
-      ∙ sym (ap (λ (m : Merging). mergingOf m b) (ends-as ∙ ap (λ (g : Found). settled headers g (held w)) e))
+    pub ends-conflict : (h : Header) → f ≡ At h → merging (Refused (Conflict h)) b ≡ mergingOf (ended headers (some (workingIn s n))) b
+    ends-conflict h e = sym (ap (λ (m : Merging). mergingOf m b) (ends-as ∙ ap (λ (g : Found). settled headers g (entriesFrom s 0 n)) e))
+
+    pub ends-merged : (t : List ℕ) (top : ℕ) (x : Answer × List ℕ) → f ≡ Nothing → Strikes s n t top
+        → x ≡ mergingOf (merged (entriesFrom (take (recordSize * n - recordSize * top) (drop (recordSize * top) t)) 0 (n - top))) b
+        → x ≡ mergingOf (ended headers (some (workingIn s n))) b
+    ends-merged t top x e k y =
+        y
+        ∙ ap (λ (l : List Entry). mergingOf (merged l) b) (entries-of-part t top n ∙ k .left)
+        ∙ sym (ap (λ (m : Merging). mergingOf m b) (ends-as ∙ ap (λ (g : Found). settled headers g (entriesFrom s 0 n)) e))
 
 -- ---- so is a stage
 
-module _ (p : Phase) (l : Entries) (b : List ℕ) where
-  pub ends-bare : p ≡ phase.Bare → merging (Refused Bare) b ≡ mergingOf (ended headers (stageIn p l)) b
-  ends-bare e = ap (λ (q : Phase). mergingOf (ended headers (stageIn q l)) b) (sym e)
+module _ (x : Stage) (s b : List ℕ) where
+  pub ends-bare : x ≡ Stage.Bare → merging (Refused Bare) b ≡ mergingOf (ended headers (stageIn x s)) b
+  ends-bare e = ap (λ (y : Stage). mergingOf (ended headers (stageIn y s)) b) (sym e)
 
-  pub ends-crowded : p ≡ phase.Crowded → merging (Refused Crowded) b ≡ mergingOf (ended headers (stageIn p l)) b
-  ends-crowded e = ap (λ (q : Phase). mergingOf (ended headers (stageIn q l)) b) (sym e)
-
-  pub ends-working : (x : Answer × List ℕ) → p ≡ phase.Working → x ≡ mergingOf (ended headers (some (list (held l)))) b → x ≡ mergingOf (ended headers (stageIn p l)) b
-  ends-working x e y = y ∙ ap (λ (q : Phase). mergingOf (ended headers (stageIn q l)) b) (sym e)
+  pub ends-kept : (n : ℕ) (a : Answer × List ℕ) → x ≡ Stage.Kept n → a ≡ mergingOf (ended headers (some (workingIn s n))) b → a ≡ mergingOf (ended headers (stageIn x s)) b
+  ends-kept n a e y = y ∙ ap (λ (y : Stage). mergingOf (ended headers (stageIn y s)) b) (sym e)
 
 -- ---- the answer is that of the checks in 01's order
 

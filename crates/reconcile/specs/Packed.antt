@@ -7,8 +7,6 @@ use lib.Dec.{leb}
 use lib.ListN.{length, take, drop}
 use Rattle.policy.specs.declared.entry.Entry.{Entry}
 use Rattle.policy.specs.Header.{headers}
-use Rattle.wire.specs.declared.list.Entries.{Entries}
-use Rattle.wire.specs.Lists.{held}
 use Rattle.wire.specs.Format.{recordSize, listLimit, entryAt, entriesFrom}
 use Rattle.reconcile.specs.Rules.{Working, list, crowded, struck}
 use Rattle.reconcile.specs.Pass.{offeredAll}
@@ -33,10 +31,4 @@ pub record Offers (s : List ℕ) (n : ℕ) (p : List Entry) (r : List ℕ) (m : 
 pub record Strikes (s : List ℕ) (n : ℕ) (r : List ℕ) (m : ℕ) : Type 0 where
   pub left : entriesFrom r (recordSize * m) (n - m) ≡ struck headers (entriesFrom s 0 n)
   pub most : m ≤ n
-  pub size : length r ≡ length s
-
--- the first n records of r are the list
-pub record Packs (l : Entries) (s r : List ℕ) (n : ℕ) : Type 0 where
-  pub records : entriesFrom r 0 n ≡ held l
-  pub most : n ≤ listLimit
   pub size : length r ≡ length s

@@ -20,6 +20,9 @@ ghost use Rattle.reconcile.specs.Rules.{shadowed};
 ghost use Rattle.region.specs.Records.{recordsIn};
 ghost use Rattle.reconcile.specs.Packed.{Put, Offers};
 
+// As many bytes as the records of the longest list have.
+pub const PACKED_SIZE: usize = RECORD_SIZE * LIST_LIMIT;
+
 // Puts the record of e in place i.
 pub(crate) fn put_record(packed: &mut [u8], i: usize, e: Entry)
     requires { ⌜ recordSize * (i + 1) ≤ length (now packed) ⌝ }

@@ -7,7 +7,7 @@ use mathlib.Core.List.{List, [], _∷_, _++_, append-assoc}
 use lib.ListN.{length, set, replicate}
 use lib.Seq.{set-at}
 use Rattle.policy.specs.declared.entry.Entry.{Entry}
-use Rattle.wire.specs.Format.{headSize, recordSize, listLimit, entryAt, entriesFrom}
+use Rattle.wire.specs.Format.{recordSize, listLimit, entryAt, entriesFrom}
 use Rattle.wire.specs.Lists.{emptyEntry, listed}
 use Rattle.wire.proofs.Entries.{length-entries, entries-split}
 
@@ -37,19 +37,19 @@ filled-next p v e m i h l =
     fewer : (m i : ℕ) → i < m → m - i ≡ suc (m - (i + 1))
     fewer m i l = omega arith
 
--- the first i records of a file in the first places
-abbrev pub firsts : List ℕ → ℕ → List Entry
-firsts s i = entriesFrom s headSize i ++ replicate (listLimit - i) emptyEntry
+-- the first i records from a place on in the first places
+abbrev pub firsts : List ℕ → ℕ → ℕ → List Entry
+firsts s at i = entriesFrom s at i ++ replicate (listLimit - i) emptyEntry
 
-pub firsts-next : (s : List ℕ) (es : List Entry) (v : Entry) (i : ℕ) → i < listLimit → v ≡ entryAt s (headSize + recordSize * i) → es ≡ firsts s i → set es i v ≡ firsts s (i + 1)
-firsts-next s es v i l e h =
+pub firsts-next : (s : List ℕ) (es : List Entry) (v : Entry) (at i : ℕ) → i < listLimit → v ≡ entryAt s (at + recordSize * i) → es ≡ firsts s at i → set es i v ≡ firsts s at (i + 1)
+firsts-next s es v at i l e h =
     ap₂ (λ (xs : List Entry) (x : Entry). set xs i x) h e
-    ∙ filled-next (entriesFrom s headSize i) (entryAt s (headSize + recordSize * i)) emptyEntry listLimit i (length-entries s headSize i) l
-    ∙ ap (_++ replicate (listLimit - (i + 1)) emptyEntry) (sym (entries-split s headSize i 1))
+    ∙ filled-next (entriesFrom s at i) (entryAt s (at + recordSize * i)) emptyEntry listLimit i (length-entries s at i) l
+    ∙ ap (_++ replicate (listLimit - (i + 1)) emptyEntry) (sym (entries-split s at i 1))
 
-pub firsts-listed : (s : List ℕ) (es : List Entry) (n i : ℕ) → i ≡ n → es ≡ firsts s i → record { entries = es; count = n } ≡ listed (entriesFrom s headSize n)
-firsts-listed s es n i e h =
-    let k = length-entries s headSize n in
-    let g : es ≡ entriesFrom s headSize n ++ replicate (listLimit - length (entriesFrom s headSize n)) emptyEntry =
-    h ∙ ap₂ (λ (a b : ℕ). entriesFrom s headSize a ++ replicate (listLimit - b) emptyEntry) e (e ∙ sym k) in
+pub firsts-listed : (s : List ℕ) (es : List Entry) (at n i : ℕ) → i ≡ n → es ≡ firsts s at i → record { entries = es; count = n } ≡ listed (entriesFrom s at n)
+firsts-listed s es at n i e h =
+    let k = length-entries s at n in
+    let g : es ≡ entriesFrom s at n ++ replicate (listLimit - length (entriesFrom s at n)) emptyEntry =
+    h ∙ ap₂ (λ (a b : ℕ). entriesFrom s at a ++ replicate (listLimit - b) emptyEntry) e (e ∙ sym k) in
     λ j. record { entries = g j; count = sym k j }

@@ -1,6 +1,7 @@
 -- What reading answers, by the answer of the checks.
 -- Assumes nothing.
-use Prim.Native.Nat.{ℕ, _≤_}
+use Prim.Native.Nat.{ℕ, _+_, _*_, _≤_}
+use native.Mathlib.Omega.{arith}
 use mathlib.Core.Path.{_≡_, sym, _∙_, ap}
 use mathlib.Core.List.{List, [], _∷_}
 use lib.ListN.{length}
@@ -9,7 +10,7 @@ use Rattle.policy.proofs.Branches.{paired}
 use Rattle.wire.specs.declared.check.Checked.{Checked}
 use Rattle.wire.specs.declared.check.Checked.the-variants.{Good, Refused}
 use Rattle.wire.specs.declared.list.Entries.{Entries}
-use Rattle.wire.specs.Format.{headSize, listLimit, listIn, fileSize, entriesFrom}
+use Rattle.wire.specs.Format.{headSize, recordSize, listLimit, listIn, entriesFrom}
 use Rattle.wire.specs.Checks.{checksOf, checked}
 use Rattle.wire.specs.Lists.{listed, reading, readingOf}
 use Rattle.wire.proofs.Answers.{after-accepted, after-refused}
@@ -18,8 +19,8 @@ use Rattle.wire.proofs.Checked.{good-tells}
 pub good-most : (s : List ℕ) (r : Checked) (n : ℕ) → checked r ≡ checksOf s listLimit → r ≡ Good n → n ≤ listLimit
 good-most s r n e g = good-tells s listLimit r n e g .most-is
 
-pub good-size : (s : List ℕ) (r : Checked) (n : ℕ) → checked r ≡ checksOf s listLimit → r ≡ Good n → length s ≡ fileSize n
-good-size s r n e g = good-tells s listLimit r n e g .size
+pub good-size : (s : List ℕ) (r : Checked) (n : ℕ) → checked r ≡ checksOf s listLimit → r ≡ Good n → headSize + recordSize * n ≤ length s
+good-size s r n e g = omega (arith, good-tells s listLimit r n e g .size)
 
 pub good-reading : (s : List ℕ) (r : Checked) (n : ℕ) (l : Entries) → checked r ≡ checksOf s listLimit → r ≡ Good n
     → l ≡ listed (entriesFrom s headSize n) → reading (record { list = l; answer = Good n }) ≡ readingOf s

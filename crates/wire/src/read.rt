@@ -9,9 +9,9 @@ use crate::list::Entries;
 use crate::list::no_entries;
 use crate::record::read_entry;
 ghost use mathlib.Core.Path.{_≡_};
-ghost use Prim.Native.Nat.{_≤_};
+ghost use Prim.Native.Nat.{_+_, _*_, _≤_};
 ghost use lib.ListN.{length};
-ghost use Rattle.wire.specs.Format.{headSize, listLimit, fileSize, entriesFrom};
+ghost use Rattle.wire.specs.Format.{recordSize, listLimit, entriesFrom};
 ghost use Rattle.wire.specs.Lists.{listed, reading, readingOf};
 
 // What checks 1 to 4 answer, and the list; no entries where the file is refused.
@@ -20,15 +20,15 @@ pub struct Reading {
     pub answer: Checked,
 }
 
-// The n records of a file, as a list.
-fn read_entries(file: &[u8], n: usize) -> Entries
-    requires { ⌜ (n ≤ listLimit) × (length (now file) ≡ fileSize n) ⌝ }
-    ensures { λ r. ⌜ r ≡ listed (entriesFrom (now (file .entry)) headSize n) ⌝ }
+// The n records from a place on, as a list.
+pub fn read_entries(s: &[u8], at: usize, n: usize) -> Entries
+    requires { ⌜ (n ≤ listLimit) × (at + recordSize * n ≤ length (now s)) ⌝ }
+    ensures { λ r. ⌜ r ≡ listed (entriesFrom (now (s .entry)) at n) ⌝ }
 {
     let mut entries = [EMPTY; 256];
     let mut i: usize = 0;
     while i < n {
-        entries[i] = read_entry(file, HEAD_SIZE + RECORD_SIZE * i);
+        entries[i] = read_entry(s, at + RECORD_SIZE * i);
         i += 1;
     }
     Entries { entries, count: n }
@@ -40,7 +40,7 @@ pub fn read_list(file: &[u8]) -> Reading
 {
     match check_file(file, LIST_LIMIT) {
         Checked::Good(n) => Reading {
-            list: read_entries(file, n),
+            list: read_entries(file, HEAD_SIZE, n),
             answer: Checked::Good(n),
         },
         Checked::Refused(r) => Reading {

@@ -1,14 +1,11 @@
--- A header without an action is a conflict; else what striking leaves is written.
-use Rattle.reconcile.proofs.Writing.{ends-conflict, ends-merged}
+-- Past 256 it is crowded; a header without an action is a conflict; else what striking leaves is written.
+use Rattle.reconcile.proofs.Writing.{ends-crowded, ends-conflict, ends-merged}
 use borrow.Author.Needs.{needs}
 use Rattle.reconcile.proofs.ending.end_list.Statement.{statement}
 use Rattle.reconcile.proofs.ending.end_list.Tie as tie
 
-slice-aggregate-pack : tie.Need-slice-aggregate-pack
-slice-aggregate-pack c = search needs
-
-pack-requires : tie.Need-pack-requires
-pack-requires c κs = search needs
+returns : tie.Need-returns
+returns c = search ends-crowded
 
 mul-least-conflict : tie.Need-mul-least-conflict
 mul-least-conflict c = search needs
@@ -30,9 +27,6 @@ enum-known-found c = search needs
 
 enum-told : tie.Need-enum-told
 enum-told c = search needs
-
-slice-aggregate-strike-records : tie.Need-slice-aggregate-strike-records
-slice-aggregate-strike-records c = search needs
 
 strike-records-requires : tie.Need-strike-records-requires
 strike-records-requires c κs = search needs
@@ -58,21 +52,26 @@ sub-write-merged-2 c = search needs
 write-merged-requires : tie.Need-write-merged-requires
 write-merged-requires c κs = search needs
 
-returns : tie.Need-returns
-returns c = search (ends-conflict, needs)
-
 same-length : tie.Need-same-length
 same-length c = search needs
 
 returns-2 : tie.Need-returns-2
-returns-2 c = search (ends-merged, needs)
+returns-2 c = search (ends-conflict, needs)
+
+same-length-2 : tie.Need-same-length-2
+same-length-2 c = search needs
+
+same-length-3 : tie.Need-same-length-3
+same-length-3 c = search needs
+
+returns-3 : tie.Need-returns-3
+returns-3 c = search (ends-merged, needs)
 
 pub end-list-spec : {M : Type 1} → statement M
 end-list-spec =
     tie.close
     (tie.spec
-    slice-aggregate-pack
-    pack-requires
+    returns
     mul-least-conflict
     sub-least-conflict
     part-least-conflict-start
@@ -80,7 +79,6 @@ end-list-spec =
     least-conflict-requires
     enum-known-found
     enum-told
-    slice-aggregate-strike-records
     strike-records-requires
     mul-write-merged
     mul-write-merged-2
@@ -89,6 +87,8 @@ end-list-spec =
     part-write-merged-end
     sub-write-merged-2
     write-merged-requires
-    returns
     same-length
-    returns-2)
+    returns-2
+    same-length-2
+    same-length-3
+    returns-3)

@@ -1,5 +1,5 @@
--- Each phase goes to its answer.
-use Rattle.reconcile.proofs.Writing.{ends-bare, ends-working, ends-crowded}
+-- Each stage goes to its answer.
+use Rattle.reconcile.proofs.Writing.{ends-bare, ends-kept}
 use borrow.Author.Needs.{needs}
 use Rattle.reconcile.proofs.ending.end_merging.Statement.{statement}
 use Rattle.reconcile.proofs.ending.end_merging.Tie as tie
@@ -7,14 +7,11 @@ use Rattle.reconcile.proofs.ending.end_merging.Tie as tie
 enum-told : tie.Need-enum-told
 enum-told c = search needs
 
-enum-told-2 : tie.Need-enum-told-2
-enum-told-2 c = search needs
+enum-known-s : tie.Need-enum-known-s
+enum-known-s c = search needs
 
 end-list-requires : tie.Need-end-list-requires
 end-list-requires c κs = search needs
-
-enum-told-3 : tie.Need-enum-told-3
-enum-told-3 c = search needs
 
 returns : tie.Need-returns
 returns c = search ends-bare
@@ -22,21 +19,13 @@ returns c = search ends-bare
 same-length : tie.Need-same-length
 same-length c = search needs
 
-returns-2 : tie.Need-returns-2
-returns-2 c = search ends-working
+same-length-2 : tie.Need-same-length-2
+same-length-2 c = search needs
 
-returns-3 : tie.Need-returns-3
-returns-3 c = search ends-crowded
+returns-2 : tie.Need-returns-2
+returns-2 c = search ends-kept
 
 pub end-merging-spec : {M : Type 1} → statement M
 end-merging-spec =
     tie.close
-    (tie.spec
-    enum-told
-    enum-told-2
-    end-list-requires
-    enum-told-3
-    returns
-    same-length
-    returns-2
-    returns-3)
+    (tie.spec enum-told enum-known-s end-list-requires returns same-length same-length-2 returns-2)

@@ -7,10 +7,10 @@ use Rattle.wire.proofs.read.read_entries.Statement.{statement}
 use Rattle.wire.proofs.read.read_entries.Tie as tie
 
 abbrev Inv-loop : tie.InvT-loop
-Inv-loop file n entries₀ i₀ entries i = (i ≤ n) × (entries ≡ firsts file i)
+Inv-loop s at n entries₀ i₀ entries i = (i ≤ n) × (entries ≡ firsts s at i)
 
 abbrev μ-loop : tie.MeasureT-loop
-μ-loop file n entries₀ i₀ entries i = n - i
+μ-loop s at n entries₀ i₀ entries i = n - i
 
 loop-holds : tie.Need-loop-holds Inv-loop μ-loop
 loop-holds c = (search needs, refl)
@@ -37,13 +37,16 @@ loop-less : tie.Need-loop-less Inv-loop μ-loop
 loop-less c = search needs
 
 loop-again : tie.Need-loop-again Inv-loop μ-loop
-loop-again c = (search needs, let l = c .before .before .loop in firsts-next (c .before .before .before .before .args .file .now) (l .entries) _ (l .i) (search needs) (c .read-entry .ensures) (l .inv .1))
+loop-again c =
+    let a = c .before .before .before .before .args in
+    let l = c .before .before .loop in
+    (search needs, firsts-next (a .s .now) (l .entries) _ (a .at) (l .i) (search needs) (c .read-entry .ensures) (l .inv .1))
 
 returns : tie.Need-returns Inv-loop μ-loop
 returns c =
     let a = c .before .before .before .args in
     let l = c .before .loop in
-    firsts-listed (a .file .now) (l .entries) (a .n) (l .i) (search needs) (l .inv .1)
+    firsts-listed (a .s .now) (l .entries) (a .at) (a .n) (l .i) (search needs) (l .inv .1)
 
 pub read-entries-spec : {M : Type 1} → statement M
 read-entries-spec =

@@ -8,12 +8,12 @@ use Rattle.bench.proofs.calls.Bench.file.Tie as tie
 returns : tie.Need-returns
 returns c =
     let g = c .before .before in
-    file-low (g .args .self) (g .args .party) (g .args .bytes .now) (c .if1 .taken)
+    file-low (g .args .t1) (g .args .party) (g .args .bytes .now) (c .if1 .taken)
 
 returns-2 : tie.Need-returns-2
 returns-2 c =
     let g = c .before .before .before in
-    file-high (g .args .self) (g .args .party) (g .args .bytes .now) (c .before .if1 .left) (c .if2 .taken)
+    file-high (g .args .t1) (g .args .party) (g .args .bytes .now) (c .before .if1 .left) (c .if2 .taken)
 
 check-list-requires : tie.Need-check-list-requires
 check-list-requires c κs = search needs
@@ -39,12 +39,12 @@ element-set-from-slot c = search needs
 returns-3 : tie.Need-returns-3
 returns-3 c =
     let g = c .before .before .before .before .before .before .before in
-    search (file-refused (g .args .self) (g .args .party) (g .args .bytes .now) (c .before .before .before .check-list .result) (c .before .before .before .before .before .if1 .left) (c .before .before .before .before .if2 .left) (c .before .before .before .check-list .ensures))
+    search (file-refused (g .args .t1) (g .args .party) (g .args .bytes .now) (c .before .before .before .check-list .result) (c .before .before .before .before .before .if1 .left) (c .before .before .before .before .if2 .left) (c .before .before .before .check-list .ensures))
 
 returns-4 : tie.Need-returns-4
 returns-4 c =
     let g = c .before .before .before .before .before .before .before .before in
-    file-accepted (g .args .self) (g .args .party) (g .args .bytes .now) (c .before .before .before .before .check-list .result) (c .before .before .before .before .before .before .if1 .left) (c .before .before .before .before .before .if2 .left) (c .before .before .before .before .check-list .ensures) _ (c .slot-with .result) (search needs) (c .slot-with .ensures)
+    file-accepted (g .args .t1) (g .args .party) (g .args .bytes .now) (c .before .before .before .before .check-list .result) (c .before .before .before .before .before .before .if1 .left) (c .before .before .before .before .before .if2 .left) (c .before .before .before .before .check-list .ensures) _ (c .slot-with .result) (search needs) (c .slot-with .ensures)
 
 pub file-spec : {M : Type 1} → statement M
 file-spec =
