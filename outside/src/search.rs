@@ -152,9 +152,11 @@ fn size(r: &Record, x: &Box5) -> f64 {
     width(r, 0, x) * width(r, 1, x) * width(r, 2, x) * width(r, 3, x) * width(r, 4, x)
 }
 
-/// The size of a record that covers `x`.
-fn full_size(x: &Box5) -> f64 {
-    (0..FIELDS).map(|f| ((x.high[f] - x.low[f]) as f64 + 1.0) * REACHES).product()
+/// The size of a record that covers half of `x` in one field and all of it in the others: a heavier
+/// one need not be looked for.
+fn enough(x: &Box5) -> f64 {
+    let full = (0..FIELDS).map(|f| ((x.high[f] - x.low[f]) as f64 + 1.0) * REACHES);
+    full.product::<f64>() / (REACHES * 2.0)
 }
 
 /// Whether a record that holds the low corner of `x` holds all of it.
@@ -169,7 +171,7 @@ fn up_to_last(list: &[Record], x: &Box5) -> usize {
 }
 
 /// Where the largest record that holds the low corner of `x` ends in it. Most boxes are covered by
-/// the last such record of a list, so it is looked for before any size is reckoned.
+/// the last such record of a list, or held by it alone: no size is reckoned before that is known.
 fn pick(lists: [&[Record]; 2], x: &Box5) -> Option<Header> {
     let firsts = lists.map(|list| &list[..up_to_last(list, x)]);
     for list in firsts {
@@ -177,19 +179,34 @@ fn pick(lists: [&[Record]; 2], x: &Box5) -> Option<Header> {
             return Some(x.high);
         }
     }
-    let full = full_size(x);
+    let alone = firsts.iter().any(|list| list.is_empty());
     let mut best = None;
     let mut largest = 0.0;
-    'pick: for list in firsts {
-        for r in list.iter().rev() {
+    'lists: for list in firsts {
+        let Some((last, others)) = list.split_last() else { continue };
+        let others = &others[..up_to_last(others, x)];
+        if alone && others.is_empty() {
+            best = Some(last);
+            break;
+        }
+        let enough = enough(x);
+        let size_of_last = size(last, x);
+        if size_of_last > largest {
+            largest = size_of_last;
+            best = Some(last);
+        }
+        if largest >= enough {
+            break;
+        }
+        for r in others.iter().rev() {
             if holds_all(r, &x.low) {
                 let size = size(r, x);
                 if size > largest {
                     largest = size;
                     best = Some(r);
                 }
-                if size >= full {
-                    break 'pick;
+                if size >= enough {
+                    break 'lists;
                 }
             }
         }

@@ -18,10 +18,12 @@ use Rattle.policy.specs.Box.{within, inside, lows}
 use Rattle.policy.specs.Header.{arity, fields, header, Box, lies, ranges}
 use Rattle.policy.specs.Entry.{selector, matches}
 use Rattle.policy.specs.Policy.{missed}
-use Rattle.policy.proofs.Bool.{not-false, and-intro, and-left, and-right}
+use Rattle.policy.proofs.Branches.{paired}
+use Rattle.policy.proofs.Bool.{clash, and-intro, and-left, and-right}
 use Rattle.policy.proofs.Box.{within-by, low-le, le-high}
 use Rattle.policy.proofs.Policy.{missed-append, missed-cons}
 use Rattle.wire.specs.Format.{recordSize, entryAt, entriesFrom}
+use Rattle.region.specs.declared.pick.Choice.{Choice}
 use Rattle.region.specs.declared.pick.Picked.{Picked}
 use Rattle.region.specs.declared.pick.Picked.the-variants.{Held, Free, Covered}
 use Rattle.region.specs.Records.{recordsIn}
@@ -81,29 +83,23 @@ one-catches s (e ∷ es) h (inr a) i = missed-cons e es h ∙ ap (not (matches e
 
 -- ---- the records of a slice, from the last to the first
 
--- none of the records from number i to before n holds the low corner of b
-abbrev pub Passed : List ℕ → ℕ → Box → ℕ → Type 0
-Passed s n b i = missed (entriesFrom s (recordSize * i) (n - i)) (header (lows arity b)) ≡ true
+-- none of the records from number i to before n holds the numbers x
+abbrev pub Passed : List ℕ → ℕ → Row ℕ arity → ℕ → Type 0
+Passed s n x i = missed (entriesFrom s (recordSize * i) (n - i)) (header x) ≡ true
 
--- record number r holds the low corner of b; where there is no such number, none from the i-th on does
-abbrev pub ChoosesFrom : List ℕ → Box → ℕ → ℕ → Type 0
-ChoosesFrom s b i r =
-    (r < length s / recordSize → holds (selector (entryAt s (recordSize * r))) b ≡ true)
-    × (length s / recordSize ≤ r → Passed s (length s / recordSize) b i)
-
-module _ (s : List ℕ) (n : ℕ) (b : Box) where
-  pub passed-none : Passed s n b n
-  passed-none = ap (λ (j : ℕ). missed (entriesFrom s (recordSize * n) j) (header (lows arity b))) (none-left n)
+module _ (s : List ℕ) (n : ℕ) (x : Row ℕ arity) where
+  pub passed-none : Passed s n x n
+  passed-none = ap (λ (j : ℕ). missed (entriesFrom s (recordSize * n) j) (header x)) (none-left n)
     where
       none-left : (n : ℕ) → n - n ≡ 0
       none-left n = omega arith
 
-  module _ (i : ℕ) (t : Bool) (l : i ≤ n) (c : Passed s n b i) (e : t ≡ holds (selector (entryAt s (recordSize * (i - 1)))) b) where
-    pub passed-more : 0 < i → t ≡ false → Passed s n b (i - 1)
+  module _ (i : ℕ) (t : Bool) (l : i ≤ n) (c : Passed s n x i) (e : t ≡ inside arity (selector (entryAt s (recordSize * (i - 1)))) x) where
+    pub passed-more : 0 < i → t ≡ false → Passed s n x (i - 1)
     passed-more m p =
-        ap (λ (j : ℕ). missed (entriesFrom s (recordSize * (i - 1)) j) (header (lows arity b))) (one-more n i l m)
-        ∙ ap (λ (j : ℕ). missed (entryAt s (recordSize * (i - 1)) ∷ entriesFrom s j (n - i)) (header (lows arity b))) (next-at i m)
-        ∙ missed-cons (entryAt s (recordSize * (i - 1))) (entriesFrom s (recordSize * i) (n - i)) (header (lows arity b))
+        ap (λ (j : ℕ). missed (entriesFrom s (recordSize * (i - 1)) j) (header x)) (one-more n i l m)
+        ∙ ap (λ (j : ℕ). missed (entryAt s (recordSize * (i - 1)) ∷ entriesFrom s j (n - i)) (header x)) (next-at i m)
+        ∙ missed-cons (entryAt s (recordSize * (i - 1))) (entriesFrom s (recordSize * i) (n - i)) (header x)
         ∙ and-intro (ap not (sym e ∙ p)) c
       where
         one-more : (n i : ℕ) → i ≤ n → 0 < i → n - (i - 1) ≡ suc (n - i)
@@ -112,11 +108,11 @@ module _ (s : List ℕ) (n : ℕ) (b : Box) where
         next-at : (i : ℕ) → 0 < i → recordSize * (i - 1) + recordSize ≡ recordSize * i
         next-at i m = omega arith
 
-    pub last-found : t ≡ true → HoldsLast s n b i
+    pub last-found : t ≡ true → HoldsLast s n x i
     last-found p = (l, (λ _. sym e ∙ p, c))
 
-  pub last-none : (i : ℕ) → i ≤ 0 → Passed s n b i → HoldsLast s n b 0
-  last-none i l c = (omega arith, (λ m. absurd (omega arith), ap (λ (j : ℕ). missed (entriesFrom s (recordSize * j) (n - j)) (header (lows arity b))) (sym (at-zero i l)) ∙ c))
+  pub last-none : (i : ℕ) → i ≤ 0 → Passed s n x i → HoldsLast s n x 0
+  last-none i l c = (omega arith, (λ m. absurd (omega arith), ap (λ (j : ℕ). missed (entriesFrom s (recordSize * j) (n - j)) (header x)) (sym (at-zero i l)) ∙ c))
     where
       at-zero : (k : ℕ) → k ≤ 0 → k ≡ 0
       at-zero k l = omega arith
@@ -124,31 +120,6 @@ module _ (s : List ℕ) (n : ℕ) (b : Box) where
 module _ (s : List ℕ) (b : Box) where
   abbrev count : ℕ
   count = length s / recordSize
-
-  -- the last that holds the corner was found, and nothing is chosen
-  pub choose-start : (i : ℕ) → HoldsLast s count b i → ChoosesFrom s b i count
-  choose-start i h = (λ l. absurd (omega arith), λ _. h .1 .1)
-
-  -- after a record that holds the corner, something is chosen
-  pub choose-taken : (i n old new : ℕ) → n ≡ count → i ≤ count → 0 < i → (0 < i → holds (selector (entryAt s (recordSize * (i - 1)))) b ≡ true) → ChoosesFrom s b i old
-      → Better (i - 1) n old new → (new < count) × (holds (selector (entryAt s (recordSize * new))) b ≡ true)
-  choose-taken i n old new k l m h c (inl q) = (omega arith, ap (λ (r : ℕ). holds (selector (entryAt s (recordSize * r))) b) q ∙ h m)
-  choose-taken i n old new k l m h c (inr q) = (omega (arith, q .0, q .1), ap (λ (r : ℕ). holds (selector (entryAt s (recordSize * r))) b) (q .0) ∙ c .0 (omega (arith, q .1)))
-
-  pub choose-found : (r : ℕ) → (r < count) × (holds (selector (entryAt s (recordSize * r))) b ≡ true) → Chooses s b r
-  choose-found r c = (λ _. c .1, λ g. absurd (omega (arith, c .0)))
-
-  pub choose-again : (i r : ℕ) → (r < count) × (holds (selector (entryAt s (recordSize * r))) b ≡ true) → ChoosesFrom s b i r
-  choose-again i r c = (λ _. c .1, λ g. absurd (omega (arith, c .0)))
-
-  pub choose-end : (i r : ℕ) → i ≤ 0 → ChoosesFrom s b i r → Chooses s b r
-  choose-end i r l c = (c .0, λ g. ap (λ (j : ℕ). missed (entriesFrom s 0 j) (header (lows arity b))) (sym (less-none count)) ∙ ap (λ (j : ℕ). missed (entriesFrom s (recordSize * j) (count - j)) (header (lows arity b))) (sym (at-zero i l)) ∙ c .1 g)
-    where
-      less-none : (n : ℕ) → n - 0 ≡ n
-      less-none n = omega arith
-
-      at-zero : (k : ℕ) → k ≤ 0 → k ≡ 0
-      at-zero k l = omega arith
 
   -- the choice, read
   one-of : (q : Box) (r : ℕ) → r < count → q ≡ selector (entryAt s (recordSize * r)) → OneOf q (recordsIn s)
@@ -168,16 +139,50 @@ module _ (s : List ℕ) (b : Box) where
           there : (at r : ℕ) → at + recordSize * suc r ≡ at + recordSize + recordSize * r
           there at r = omega arith
 
-  pub chosen-held : (r : ℕ) (q : Region) → Chooses s b r → r < count → ranges q ≡ selector (entryAt s (recordSize * r)) → Picks (recordsIn s) b (Held q)
-  chosen-held r q c l e = (ap (λ (p : Box). holds p b) e ∙ c .0 l, one-of (ranges q) r l e)
+  pub number-held : (r : ℕ) (q : Region) → r < count → holds (selector (entryAt s (recordSize * r))) b ≡ true → ranges q ≡ selector (entryAt s (recordSize * r)) → Picks (recordsIn s) b (Held q)
+  number-held r q l h e = (ap (λ (p : Box). holds p b) e ∙ h, one-of (ranges q) r l e)
 
-  pub chosen-covers : (r : ℕ) → Chooses s b r → r < count → reaches arity (selector (entryAt s (recordSize * r))) b ≡ true → Covers (recordsIn s) b
-  chosen-covers r c l w h i =
+  number-covers : (r : ℕ) → r < count → holds (selector (entryAt s (recordSize * r))) b ≡ true → reaches arity (selector (entryAt s (recordSize * r))) b ≡ true → Covers (recordsIn s) b
+  number-covers r l o w h i =
       one-catches (selector (entryAt s (recordSize * r))) (recordsIn s) h (one-of (selector (entryAt s (recordSize * r))) r l refl)
-      (inside-all arity (selector (entryAt s (recordSize * r))) b (fields h) (c .0 l) w i)
+      (inside-all arity (selector (entryAt s (recordSize * r))) b (fields h) o w i)
 
-  pub last-covers : (i : ℕ) → HoldsLast s count b i → 0 < i → reaches arity (selector (entryAt s (recordSize * (i - 1)))) b ≡ true → Covers (recordsIn s) b
-  last-covers i h l w = chosen-covers (i - 1) (λ _. h .1 .0 l, λ m. absurd (omega (arith, h .0))) (omega (arith, h .0)) w
+  -- where the last of the first i records holds the corner
+  module _ (i : ℕ) (m : i ≤ count) (h : 0 < i → holds (selector (entryAt s (recordSize * (i - 1)))) b ≡ true) (l : 0 < i) where
+    -- and reaches the ends
+    pub last-covers : reaches arity (selector (entryAt s (recordSize * (i - 1)))) b ≡ true → Covers (recordsIn s) b
+    last-covers w = number-covers (i - 1) (omega arith) (h l) w
 
-  pub chosen-free : (r : ℕ) → Chooses s b r → count ≤ r → Picks (recordsIn s) b Free
-  chosen-free r c l = c .1 l
+    -- and is the first choice
+    pub choose-first : Chooses s b (i - 1) false
+    choose-first = (omega arith, (h l, λ t. clash t refl))
+
+    -- or a further one
+    pub choose-better : (c r : Choice) → Chooses s b (c .number) (c .covers) → Better (i - 1) c r → Chooses s b (r .number) (r .covers)
+    choose-better c r k (inl q) = subst (λ (p : ℕ × Bool). Chooses s b (p .0) (p .1)) (sym (paired (q .0) (q .1))) choose-first
+    choose-better c r k (inr q) = subst (λ (d : Choice). Chooses s b (d .number) (d .covers)) (sym q) k
+
+  -- a choice that is asked whether it reaches the ends
+  pub choose-judged : (r : ℕ) (old new : Bool) → Chooses s b r old → new ≡ reaches arity (selector (entryAt s (recordSize * r))) b → Chooses s b r new
+  choose-judged r old new c e = (c .0, (c .1 .0, λ t. number-covers r (c .0) (c .1 .0) (sym e ∙ t)))
+
+  -- where none holds it
+  pub none-holds : (i : ℕ) → i ≡ 0 → HoldsLast s count (lows arity b) i → missed (recordsIn s) (header (lows arity b)) ≡ true
+  none-holds i e h =
+      ap (λ (j : ℕ). missed (entriesFrom s 0 j) (header (lows arity b))) (sym (less-none count))
+      ∙ ap (λ (j : ℕ). missed (entriesFrom s (recordSize * j) (count - j)) (header (lows arity b))) (sym e)
+      ∙ h .1 .1
+    where
+      less-none : (n : ℕ) → n - 0 ≡ n
+      less-none n = omega arith
+
+-- what one list picks, where the other has no record that holds the corner
+pub picks-first : (es ds : List Entry) (b : Box) (p : Picked) → Picks es b p → missed ds (header (lows arity b)) ≡ true → Picks (es ++ ds) b p
+picks-first es ds b (Held s) p m = picks-left es ds b s p
+picks-first es ds b Free p m = picks-free es ds b p m
+picks-first es ds b Covered p m = covers-left es ds b p
+
+pub picks-second : (es ds : List Entry) (b : Box) (p : Picked) → Picks ds b p → missed es (header (lows arity b)) ≡ true → Picks (es ++ ds) b p
+picks-second es ds b (Held s) p m = picks-right es ds b s p
+picks-second es ds b Free p m = picks-free es ds b m p
+picks-second es ds b Covered p m = covers-right es ds b p

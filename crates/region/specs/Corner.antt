@@ -18,6 +18,7 @@ use Rattle.policy.specs.Entry.{selector}
 use Rattle.policy.specs.Policy.{missed}
 use Rattle.wire.specs.Format.{recordSize, entryAt, entriesFrom}
 use Rattle.region.specs.Records.{recordsIn}
+use Rattle.region.specs.declared.pick.Choice.{Choice}
 use Rattle.region.specs.declared.pick.Picked.{Picked}
 use Rattle.region.specs.declared.pick.Picked.the-variants.{Held, Free, Covered}
 
@@ -54,22 +55,22 @@ Picks es b (Held s) = (holds (ranges s) b ≡ true) × OneOf (ranges s) es
 Picks es b Free = missed es (header (lows arity b)) ≡ true
 Picks es b Covered = Covers es b
 
--- record number i of the slice holds the low corner of b; where there is no such number, no record does
-abbrev pub Chooses : List ℕ → Box → ℕ → Type 0
-Chooses s b i =
-    (i < length s / recordSize → holds (selector (entryAt s (recordSize * i))) b ≡ true)
-    × (length s / recordSize ≤ i → missed (recordsIn s) (header (lows arity b)) ≡ true)
+-- record number i of the slice holds the low corner of b, and all of b if the choice says so
+abbrev pub Chooses : List ℕ → Box → ℕ → Bool → Type 0
+Chooses s b i whole =
+    (i < length s / recordSize)
+    × ((holds (selector (entryAt s (recordSize * i))) b ≡ true) × (whole ≡ true → Covers (recordsIn s) b))
 
--- of the first n records: the last of the first i holds the low corner of b, if i is not 0, and none behind it does
-abbrev pub HoldsLast : List ℕ → ℕ → Box → ℕ → Type 0
-HoldsLast s n b i =
+-- of the first n records: the last of the first i holds the numbers x, if i is not 0, and none behind it does
+abbrev pub HoldsLast : List ℕ → ℕ → Row ℕ arity → ℕ → Type 0
+HoldsLast s n x i =
     (i ≤ n)
-    × ((0 < i → holds (selector (entryAt s (recordSize * (i - 1)))) b ≡ true)
-    × (missed (entriesFrom s (recordSize * i) (n - i)) (header (lows arity b)) ≡ true))
+    × ((0 < i → inside arity (selector (entryAt s (recordSize * (i - 1)))) x ≡ true)
+    × (missed (entriesFrom s (recordSize * i) (n - i)) (header x) ≡ true))
 
--- number i is taken, or the old choice stays, if it is one among n
-abbrev pub Better : ℕ → ℕ → ℕ → ℕ → Type 0
-Better i n old new = (new ≡ i) ⊎ ((new ≡ old) × (old < n))
+-- number i is taken, or the old choice stays
+abbrev pub Better : ℕ → Choice → Choice → Type 0
+Better i c r = ((r .number ≡ i) × (r .covers ≡ false)) ⊎ (r ≡ c)
 
 -- how many of the entries meet the box
 abbrev pub meeting : List Entry → Box → ℕ

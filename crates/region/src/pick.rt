@@ -12,14 +12,15 @@ use wire::record::read_selector;
 ghost use mathlib.Core.Path.{_≡_};
 ghost use mathlib.Core.Bool.{true, false};
 ghost use mathlib.Core.List.{_++_};
-ghost use Prim.Native.Nat.{_+_, _*_, _/_, _≤_, _<_};
+ghost use Prim.Native.Nat.{_+_, _-_, _*_, _/_, _≤_, _<_};
 ghost use lib.Dec.{leb};
 ghost use lib.ListN.{length, getD};
+ghost use Rattle.policy.specs.Box.{inside, lows};
 ghost use Rattle.policy.specs.Header.{arity, ranges};
 ghost use Rattle.policy.specs.Entry.{selector};
 ghost use Rattle.wire.specs.Format.{recordSize, number2, number4, entryAt};
 ghost use Rattle.region.specs.Records.{recordsIn};
-ghost use Rattle.region.specs.Corner.{holds, Picks, HoldsLast, Chooses, Better, reaches, Covers};
+ghost use Rattle.region.specs.Corner.{Picks, HoldsLast, Chooses, Better, reaches, Covers};
 
 // The selector of a record that holds the low corner of a region; or no record holds it; or a record holds all of the region.
 pub enum Picked {
@@ -28,30 +29,39 @@ pub enum Picked {
     Covered,
 }
 
-// The number of a record that holds a corner, with its weight; or the number of records, if none does.
+// A record that holds a corner: its number and its weight, or that it holds all of the box.
 pub struct Choice {
     pub number: usize,
     pub weight: f64,
+    pub covers: bool,
 }
 
-// Whether the record at a place holds the low corner of b. It is read field by field, as far as the first that misses.
-fn holds_corner(s: &[u8], at: usize, b: Region) -> bool
+// Whether the record at a place holds five numbers. It is read field by field, as far as the first that misses.
+fn holds_numbers(
+    s: &[u8],
+    at: usize,
+    local: u32,
+    remote: u32,
+    local_port: u32,
+    remote_port: u32,
+    protocol: u32,
+) -> bool
     requires { ⌜ at + recordSize ≤ length (now s) ⌝ }
-    ensures { λ t. ⌜ t ≡ holds (selector (entryAt (now (s .entry)) at)) (ranges b) ⌝ }
+    ensures { λ t. ⌜ t ≡ inside arity (selector (entryAt (now (s .entry)) at)) (local, (remote, («local_port», («remote_port», (protocol, tt))))) ⌝ }
 {
-    if !within4(s, at, at + 4, b.local.low) {
+    if !within4(s, at, at + 4, local) {
         return false;
     }
-    if !within4(s, at + 8, at + 12, b.remote.low) {
+    if !within4(s, at + 8, at + 12, remote) {
         return false;
     }
-    if !within2(s, at + 16, at + 18, b.local_port.low) {
+    if !within2(s, at + 16, at + 18, local_port) {
         return false;
     }
-    if !within2(s, at + 20, at + 22, b.remote_port.low) {
+    if !within2(s, at + 20, at + 22, remote_port) {
         return false;
     }
-    within1(s, at + 24, at + 25, b.protocol.low)
+    within1(s, at + 24, at + 25, protocol)
 }
 
 // How many numbers of the range b come up to an end, if b goes past it. A record that reaches the end of b weighs more: it leaves nothing above it.
@@ -73,50 +83,58 @@ fn weight(s: &[u8], at: usize, b: Region) -> f64
         * width(b.protocol, read1(s, at + 25))
 }
 
-// The weight of a record that holds all of b.
-fn full_weight(b: Region) -> f64 {
+// The weight of a record that holds half of b in one field and all of it in the others: no heavier one is looked for, since what it
+// leaves is one box of half the size.
+fn enough_weight(b: Region) -> f64 {
     width(b.local, b.local.high)
         * width(b.remote, b.remote.high)
         * width(b.local_port, b.local_port.high)
         * width(b.remote_port, b.remote_port.high)
         * width(b.protocol, b.protocol.high)
+        / 32.0
 }
 
-// The better of a choice among n records and record number i, which holds the corner.
-fn better(s: &[u8], i: usize, n: usize, b: Region, c: Choice) -> Choice
+// The better of a choice and record number i, which holds the corner.
+fn better(s: &[u8], i: usize, b: Region, c: Choice) -> Choice
     requires { ⌜ recordSize * (i + 1) ≤ length (now s) ⌝ }
-    ensures { λ r. ⌜ Better i n (c .number) (r .number) ⌝ }
+    ensures { λ r. ⌜ Better i c r ⌝ }
 {
     let w = weight(s, RECORD_SIZE * i, b);
-    if c.number < n {
-        if w <= c.weight {
-            return c;
-        }
+    if w <= c.weight {
+        return c;
     }
     Choice {
         number: i,
         weight: w,
+        covers: false,
     }
 }
 
-// Whether a choice among n records has a weight that none exceeds.
-fn is_full(c: Choice, n: usize, full: f64) -> bool
-    ensures { λ t. ⌜ (t ≡ true → c .number < n) ⌝ }
-{
-    if c.number < n {
-        return full <= c.weight;
-    }
-    false
-}
-
-// How many of the first n records of s there are up to the last that holds the low corner of b; 0 if none does.
-fn up_to_last(s: &[u8], n: usize, b: Region) -> usize
+// How many of the first n records of s there are up to the last that holds five numbers; 0 if none does. Numbers go in registers, and a
+// region would have to be stored for each call.
+fn up_to_last(
+    s: &[u8],
+    n: usize,
+    local: u32,
+    remote: u32,
+    local_port: u32,
+    remote_port: u32,
+    protocol: u32,
+) -> usize
     requires { ⌜ n ≤ length (now s) / recordSize ⌝ }
-    ensures { λ r. ⌜ HoldsLast (now (s .entry)) n (ranges b) r ⌝ }
+    ensures { λ r. ⌜ HoldsLast (now (s .entry)) n (local, (remote, («local_port», («remote_port», (protocol, tt))))) r ⌝ }
 {
     let mut i = n;
     while 0 < i {
-        if holds_corner(s, RECORD_SIZE * (i - 1), b) {
+        if holds_numbers(
+            s,
+            RECORD_SIZE * (i - 1),
+            local,
+            remote,
+            local_port,
+            remote_port,
+            protocol,
+        ) {
             return i;
         }
         i -= 1;
@@ -124,25 +142,31 @@ fn up_to_last(s: &[u8], n: usize, b: Region) -> usize
     0
 }
 
-// A record of s that holds the low corner of b. The last of the first ones does, and none behind it: from there, as far as one of full weight.
-fn choose(s: &[u8], first: usize, b: Region, full: f64) -> Choice
-    requires { ⌜ HoldsLast (now s) (length (now s) / recordSize) (ranges b) first ⌝ }
-    ensures { λ r. ⌜ Chooses (now (s .entry)) (ranges b) (r .number) ⌝ }
+// The same for the low corner of b.
+fn up_to_corner(s: &[u8], n: usize, b: Region) -> usize
+    requires { ⌜ n ≤ length (now s) / recordSize ⌝ }
+    ensures { λ r. ⌜ HoldsLast (now (s .entry)) n (lows arity (ranges b)) r ⌝ }
+{
+    up_to_last(
+        s,
+        n,
+        b.local.low,
+        b.remote.low,
+        b.local_port.low,
+        b.remote_port.low,
+        b.protocol.low,
+    )
+}
+
+// The same of all records. An empty list, as one of two often is, costs no call.
+fn up_to_corner_in(s: &[u8], b: Region) -> usize
+    ensures { λ r. ⌜ HoldsLast (now (s .entry)) (length (now (s .entry)) / recordSize) (lows arity (ranges b)) r ⌝ }
 {
     let n = s.len() / RECORD_SIZE;
-    let mut best = Choice {
-        number: n,
-        weight: 0.0,
-    };
-    let mut i = first;
-    while 0 < i {
-        best = better(s, i - 1, n, b, best);
-        if is_full(best, n, full) {
-            return best;
-        }
-        i = up_to_last(s, i - 1, b);
+    if n == 0 {
+        return 0;
     }
-    best
+    up_to_corner(s, n, b)
 }
 
 // Whether the number at a place is at least x, as a number of 4, 2 and 1 bytes.
@@ -187,20 +211,64 @@ fn record_reaches(s: &[u8], at: usize, b: Region) -> bool
     is_up_to1(s, at + 25, b.protocol.high)
 }
 
-// Whether the chosen record holds all of b.
-fn covers(s: &[u8], b: Region, c: Choice, full: f64) -> bool
-    requires { ⌜ Chooses (now s) (ranges b) (c .number) ⌝ }
-    ensures { λ t. ⌜ (t ≡ true → Covers (recordsIn (now (s .entry))) (ranges b)) ⌝ }
+// The choice, and whether the record holds all of b.
+fn judged(s: &[u8], b: Region, c: Choice) -> Choice
+    requires { ⌜ Chooses (now s) (ranges b) (c .number) (c .covers) ⌝ }
+    ensures { λ r. ⌜ Chooses (now (s .entry)) (ranges b) (r .number) (r .covers) ⌝ }
 {
-    if is_full(c, s.len() / RECORD_SIZE, full) {
-        return record_reaches(s, RECORD_SIZE * c.number, b);
+    Choice {
+        number: c.number,
+        weight: c.weight,
+        covers: record_reaches(s, RECORD_SIZE * c.number, b),
     }
-    false
+}
+
+// How many records there are up to the last before number i that holds the low corner of b; 0 if none does.
+fn up_to_next(s: &[u8], i: usize, b: Region) -> usize
+    requires { ⌜ i ≤ length (now s) / recordSize ⌝ }
+    ensures { λ r. ⌜ HoldsLast (now (s .entry)) (i - 1) (lows arity (ranges b)) r ⌝ }
+{
+    if i == 0 {
+        return 0;
+    }
+    up_to_last(
+        s,
+        i - 1,
+        b.local.low,
+        b.remote.low,
+        b.local_port.low,
+        b.remote_port.low,
+        b.protocol.low,
+    )
+}
+
+// A record of s that holds the low corner of b: the heaviest of the first one, of the next one and of those before it. One that is
+// heavy enough ends the choice.
+fn choose(s: &[u8], first: usize, next: usize, b: Region, enough: f64) -> Choice
+    requires { ⌜ (0 < first) × (HoldsLast (now s) (length (now s) / recordSize) (lows arity (ranges b)) first × HoldsLast (now s) (first - 1) (lows arity (ranges b)) next) ⌝ }
+    ensures { λ r. ⌜ Chooses (now (s .entry)) (ranges b) (r .number) (r .covers) ⌝ }
+{
+    let mut best = Choice {
+        number: first - 1,
+        weight: 0.0,
+        covers: false,
+    };
+    let mut i = first;
+    let mut k = next;
+    while 0 < i {
+        best = better(s, i - 1, b, best);
+        if enough <= best.weight {
+            return judged(s, b, best);
+        }
+        i = k;
+        k = up_to_next(s, k, b);
+    }
+    best
 }
 
 // Whether the last record that holds the low corner of b holds all of b.
 fn last_covers(s: &[u8], first: usize, b: Region) -> bool
-    requires { ⌜ HoldsLast (now s) (length (now s) / recordSize) (ranges b) first ⌝ }
+    requires { ⌜ HoldsLast (now s) (length (now s) / recordSize) (lows arity (ranges b)) first ⌝ }
     ensures { λ t. ⌜ (t ≡ true → Covers (recordsIn (now (s .entry))) (ranges b)) ⌝ }
 {
     if 0 < first {
@@ -217,53 +285,67 @@ fn numbered(s: &[u8], i: usize) -> Region
     read_selector(s, RECORD_SIZE * i)
 }
 
-// Whether the choice c among n records goes before the choice d among m: it is one, and d is none or no heavier.
-fn is_first(c: Choice, n: usize, d: Choice, m: usize) -> bool
-    ensures { λ t. ⌜ (t ≡ true → c .number < n) × (t ≡ false → m ≤ d .number → n ≤ c .number) ⌝ }
+// The pick where one list alone may have a record that holds the low corner of x. A single one needs no weight.
+fn pick_of_one(s: &[u8], first: usize, x: Region) -> Picked
+    requires { ⌜ HoldsLast (now s) (length (now s) / recordSize) (lows arity (ranges x)) first ⌝ }
+    ensures { λ r. ⌜ Picks (recordsIn (now (s .entry))) (ranges x) r ⌝ }
 {
-    if c.number < n {
-        if d.number < m {
-            return d.weight <= c.weight;
-        }
-        return true;
+    if first == 0 {
+        return Picked::Free;
     }
-    false
+    let next = up_to_corner(s, first - 1, x);
+    if next == 0 {
+        return Picked::Held(numbered(s, first - 1));
+    }
+    let c = choose(s, first, next, x, enough_weight(x));
+    if c.covers {
+        return Picked::Covered;
+    }
+    Picked::Held(numbered(s, c.number))
 }
 
-// A record of one of two lists that holds the low corner of x, by weight.
-fn pick_by_weight(a: &[u8], i: usize, b: &[u8], j: usize, x: Region) -> Picked
-    requires { ⌜ HoldsLast (now a) (length (now a) / recordSize) (ranges x) i × HoldsLast (now b) (length (now b) / recordSize) (ranges x) j ⌝ }
+// The pick where both lists have one.
+fn pick_of_both(a: &[u8], i: usize, b: &[u8], j: usize, x: Region) -> Picked
+    requires { ⌜ ((0 < i) × HoldsLast (now a) (length (now a) / recordSize) (lows arity (ranges x)) i) × ((0 < j) × HoldsLast (now b) (length (now b) / recordSize) (lows arity (ranges x)) j) ⌝ }
     ensures { λ r. ⌜ Picks (recordsIn (now (a .entry)) ++ recordsIn (now (b .entry))) (ranges x) r ⌝ }
 {
-    let full = full_weight(x);
-    let c = choose(a, i, x, full);
-    if covers(a, x, c, full) {
+    let enough = enough_weight(x);
+    let k = up_to_corner(a, i - 1, x);
+    let c = choose(a, i, k, x, enough);
+    if c.covers {
         return Picked::Covered;
     }
-    let d = choose(b, j, x, full);
-    if covers(b, x, d, full) {
-        return Picked::Covered;
-    }
-    if is_first(c, a.len() / RECORD_SIZE, d, b.len() / RECORD_SIZE) {
+    if enough <= c.weight {
         return Picked::Held(numbered(a, c.number));
     }
-    if d.number < b.len() / RECORD_SIZE {
-        return Picked::Held(numbered(b, d.number));
+    let l = up_to_corner(b, j - 1, x);
+    let d = choose(b, j, l, x, enough);
+    if d.covers {
+        return Picked::Covered;
     }
-    Picked::Free
+    if d.weight <= c.weight {
+        return Picked::Held(numbered(a, c.number));
+    }
+    Picked::Held(numbered(b, d.number))
 }
 
 // A record of one of two lists that holds the low corner of x. Most boxes are held by one record: it is looked for before any weight is reckoned.
 pub(crate) fn pick_of_two(a: &[u8], b: &[u8], x: Region) -> Picked
     ensures { λ r. ⌜ Picks (recordsIn (now (a .entry)) ++ recordsIn (now (b .entry))) (ranges x) r ⌝ }
 {
-    let i = up_to_last(a, a.len() / RECORD_SIZE, x);
+    let i = up_to_corner_in(a, x);
     if last_covers(a, i, x) {
         return Picked::Covered;
     }
-    let j = up_to_last(b, b.len() / RECORD_SIZE, x);
+    let j = up_to_corner_in(b, x);
     if last_covers(b, j, x) {
         return Picked::Covered;
     }
-    pick_by_weight(a, i, b, j, x)
+    if j == 0 {
+        return pick_of_one(a, i, x);
+    }
+    if i == 0 {
+        return pick_of_one(b, j, x);
+    }
+    pick_of_both(a, i, b, j, x)
 }

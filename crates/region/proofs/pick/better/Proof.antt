@@ -1,4 +1,4 @@
--- The old choice stays only if it is one.
+-- One of the two is taken.
 use mathlib.Core.Path.{refl}
 use mathlib.Core.Logic.{inl, inr}
 use borrow.Author.Needs.{needs}
@@ -12,13 +12,10 @@ weight-requires : tie.Need-weight-requires
 weight-requires c κs = search needs
 
 returns : tie.Need-returns
-returns c = inr (refl, search needs)
+returns c = inr refl
 
 returns-2 : tie.Need-returns-2
-returns-2 c = inl refl
-
-returns-3 : tie.Need-returns-3
-returns-3 c = inl refl
+returns-2 c = inl (refl, refl)
 
 pub better-spec : {M : Type 1} → statement M
-better-spec = tie.close (tie.spec mul-weight weight-requires returns returns-2 returns-3)
+better-spec = tie.close (tie.spec mul-weight weight-requires returns returns-2)

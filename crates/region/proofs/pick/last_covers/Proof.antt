@@ -19,7 +19,7 @@ record-reaches-requires c κs = search needs
 returns : tie.Need-returns
 returns c =
     let a = c .before .before .before in
-    λ e. last-covers (a .args .s .now) (ranges (a .args .b)) (a .args .first) (a .pre) (c .before .if1 .taken) (sym (c .record-reaches .ensures) ∙ e)
+    λ e. last-covers (a .args .s .now) (ranges (a .args .b)) (a .args .first) (a .pre .0) (a .pre .1 .0) (c .before .if1 .taken) (sym (c .record-reaches .ensures) ∙ e)
 
 returns-2 : tie.Need-returns-2
 returns-2 c = λ e. clash e refl

@@ -1,14 +1,14 @@
--- The last record that holds the corner covers the box, or the pick goes by weight.
+-- The last record that holds the corner covers the box, or the lists that have one are asked.
 use native.Mathlib.Omega.{arith}
-use borrow.Author.Needs.{needs}
 use Rattle.policy.specs.Header.{ranges}
 use Rattle.region.specs.Records.{recordsIn}
-use Rattle.region.proofs.Choosing.{covers-left, covers-right}
+use Rattle.region.proofs.Choosing.{covers-left, covers-right, none-holds, picks-first, picks-second}
+use borrow.Author.Needs.{needs}
 use Rattle.region.proofs.pick.pick_of_two.Statement.{statement}
 use Rattle.region.proofs.pick.pick_of_two.Tie as tie
 
-up-to-last-requires : tie.Need-up-to-last-requires
-up-to-last-requires c κs = omega arith
+up-to-corner-in-requires : tie.Need-up-to-corner-in-requires
+up-to-corner-in-requires c κs = search needs
 
 last-covers-requires : tie.Need-last-covers-requires
 last-covers-requires c κs = search needs
@@ -18,8 +18,8 @@ returns c =
     let a = c .before .before .before .before .before .args in
     covers-left (recordsIn (a .a .now)) (recordsIn (a .b .now)) (ranges (a .x)) (c .before .last-covers .ensures (c .if1 .taken))
 
-up-to-last-requires-2 : tie.Need-up-to-last-requires-2
-up-to-last-requires-2 c κs = omega arith
+up-to-corner-in-requires-2 : tie.Need-up-to-corner-in-requires-2
+up-to-corner-in-requires-2 c κs = search needs
 
 last-covers-requires-2 : tie.Need-last-covers-requires-2
 last-covers-requires-2 c κs = search needs
@@ -29,21 +29,41 @@ returns-2 c =
     let a = c .before .before .before .before .before .before .before .before .args in
     covers-right (recordsIn (a .a .now)) (recordsIn (a .b .now)) (ranges (a .x)) (c .before .last-covers2 .ensures (c .if2 .taken))
 
-pick-by-weight-requires : tie.Need-pick-by-weight-requires
-pick-by-weight-requires c κs = search needs
+pick-of-one-requires : tie.Need-pick-of-one-requires
+pick-of-one-requires c κs = search needs
 
 returns-3 : tie.Need-returns-3
-returns-3 c = search needs
+returns-3 c =
+    let a = c .before .before .before .before .before .before .before .before .before .before .args in
+    picks-first (recordsIn (a .a .now)) (recordsIn (a .b .now)) (ranges (a .x)) (c .pick-of-one .result) (c .pick-of-one .ensures) (none-holds (a .b .now) (ranges (a .x)) _ (c .before .if3 .taken) (c .before .before .before .before .up-to-corner-in2 .ensures))
+
+pick-of-one-requires-2 : tie.Need-pick-of-one-requires-2
+pick-of-one-requires-2 c κs = search needs
+
+returns-4 : tie.Need-returns-4
+returns-4 c =
+    let a = c .before .before .before .before .before .before .before .before .before .before .before .args in
+    picks-second (recordsIn (a .a .now)) (recordsIn (a .b .now)) (ranges (a .x)) (c .pick-of-one2 .result) (c .pick-of-one2 .ensures) (none-holds (a .a .now) (ranges (a .x)) _ (c .before .if4 .taken) (c .before .before .before .before .before .before .before .before .up-to-corner-in .ensures))
+
+pick-of-both-requires : tie.Need-pick-of-both-requires
+pick-of-both-requires c κs = ((omega (arith, c .if4 .left), c .before .before .before .before .before .before .before .up-to-corner-in .ensures), (omega (arith, c .before .if3 .left), c .before .before .before .before .up-to-corner-in2 .ensures))
+
+returns-5 : tie.Need-returns-5
+returns-5 c = search needs
 
 pub pick-of-two-spec : {M : Type 1} → statement M
 pick-of-two-spec =
     tie.close
     (tie.spec
-    up-to-last-requires
+    up-to-corner-in-requires
     last-covers-requires
     returns
-    up-to-last-requires-2
+    up-to-corner-in-requires-2
     last-covers-requires-2
     returns-2
-    pick-by-weight-requires
-    returns-3)
+    pick-of-one-requires
+    returns-3
+    pick-of-one-requires-2
+    returns-4
+    pick-of-both-requires
+    returns-5)

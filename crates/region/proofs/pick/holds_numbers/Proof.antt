@@ -2,8 +2,8 @@
 -- Assumes nothing.
 use Rattle.policy.proofs.Branches.{stops, goes-on, ends}
 use borrow.Author.Needs.{needs}
-use Rattle.region.proofs.pick.holds_corner.Statement.{statement}
-use Rattle.region.proofs.pick.holds_corner.Tie as tie
+use Rattle.region.proofs.pick.holds_numbers.Statement.{statement}
+use Rattle.region.proofs.pick.holds_numbers.Tie as tie
 
 add-within4 : tie.Need-add-within4
 add-within4 c = search needs
@@ -77,8 +77,8 @@ returns-5 c =
     (goes-on _ _ _ _ (c .before .before .within22 .ensures) (c .before .if4 .left)
     (ends _ _ (c .within1 .ensures)))))
 
-pub holds-corner-spec : {M : Type 1} → statement M
-holds-corner-spec =
+pub holds-numbers-spec : {M : Type 1} → statement M
+holds-numbers-spec =
     tie.close
     (tie.spec
     add-within4
