@@ -51,7 +51,11 @@ loop-less c =
     omega (arith, end-within _ _ _ (d .before .before .loop-test .taken) (d .file-end .ensures))
 
 loop-again : tie.Need-loop-again Inv-loop μ-loop
-loop-again c = search filed-more
+loop-again c =
+    let a = c .before .before .before .before .before .before .before .before .before .before .before .before .before .before .args in
+    let l = c .before .before .before .before .before .before .before .before .before .before .loop in
+    let f = c .before .before .before .before .before .file .ensures .0 in
+    filed-more (a .input .now) (l .from) _ _ (l .inv) (c .before .before .before .before .before .before .before .before .before .loop-test .taken) (c .before .before .before .before .before .before .before .file-end .ensures) (f .0) (f .1) (c .before .before .before .put-filing .ensures)
 
 same-length : tie.Need-same-length Inv-loop μ-loop
 same-length c = keeps (c .before .loop .inv .printed)
