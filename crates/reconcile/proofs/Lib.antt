@@ -9,6 +9,7 @@ pub mod Crossproduct
 pub mod Lexicographic
 pub mod Merging
 pub mod Packing
+pub mod Apart
 pub mod Staging
 pub mod Finishing
 pub mod Writing

@@ -1,6 +1,7 @@
 // The working list as packed records, which the search is lent.
 use crate::pair::both_entries;
 use policy::entry::Entry;
+use policy::entry::is_crossed;
 use policy::entry::selector_of;
 use policy::header::Found;
 use region::least::least_missed;
@@ -76,7 +77,7 @@ pub(crate) fn offer_list(packed: &mut [u8], n: usize, records: &[u8]) -> usize
     kept
 }
 
-// Offers what d and each record of a list have in common, one after the other.
+// Offers what d and each record of a list have in common, one after the other. Most have nothing, and that is seen first.
 pub(crate) fn offer_row(packed: &mut [u8], n: usize, d: Entry, records: &[u8]) -> usize
     requires { ⌜ length (now packed) ≡ recordSize * listLimit ⌝ }
     ensures { λ r. ⌜ Offers (now (packed .entry)) n (map (both d) (recordsIn (now (records .entry)))) (now (packed .exit)) r ⌝ }
@@ -85,9 +86,13 @@ pub(crate) fn offer_row(packed: &mut [u8], n: usize, d: Entry, records: &[u8]) -
     let mut kept = n;
     let mut j: usize = 0;
     while j < total {
-        let q = read_entry(records, RECORD_SIZE * j);
-        kept = offer(packed, kept, both_entries(d, q));
+        let at = RECORD_SIZE * j;
         j += 1;
+        let e = both_entries(d, read_entry(records, at));
+        if is_crossed(e) {
+            continue;
+        }
+        kept = offer(packed, kept, e);
     }
     kept
 }
