@@ -16,7 +16,7 @@ pub struct Answer {
     pub length: u64,
 }
 
-pub fn accepted(value: u64, length: u64) -> Answer {
+pub(crate) fn accepted(value: u64, length: u64) -> Answer {
     Answer {
         number: 0,
         value,
@@ -24,7 +24,7 @@ pub fn accepted(value: u64, length: u64) -> Answer {
     }
 }
 
-pub fn refused(number: u64, value: u64) -> Answer {
+pub(crate) fn refused(number: u64, value: u64) -> Answer {
     Answer {
         number,
         value,
@@ -32,7 +32,7 @@ pub fn refused(number: u64, value: u64) -> Answer {
     }
 }
 
-pub fn is_same(a: Answer, b: Answer) -> bool {
+pub(crate) fn is_same(a: Answer, b: Answer) -> bool {
     if a.number != b.number {
         return false;
     }
@@ -84,21 +84,21 @@ fn of_refusal(r: Refusal) -> Answer {
     }
 }
 
-pub fn of_filing(a: FileAnswer) -> Answer {
+pub(crate) fn of_filing(a: FileAnswer) -> Answer {
     match a {
         FileAnswer::Filed(n) => accepted(n as u64, 0),
         FileAnswer::Refused(r) => of_refusal(r),
     }
 }
 
-pub fn of_withdrawal(a: WithdrawAnswer) -> Answer {
+pub(crate) fn of_withdrawal(a: WithdrawAnswer) -> Answer {
     match a {
         WithdrawAnswer::Withdrawn => accepted(0, 0),
         WithdrawAnswer::Refused(r) => of_refusal(r),
     }
 }
 
-pub fn of_merging(a: MergeAnswer) -> Answer {
+pub(crate) fn of_merging(a: MergeAnswer) -> Answer {
     match a {
         MergeAnswer::Merged { count, length } => accepted(count as u64, length as u64),
         MergeAnswer::Refused(r) => of_refusal(r),

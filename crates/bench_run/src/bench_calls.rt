@@ -11,7 +11,7 @@ pub struct Step {
     pub answer: Answer,
 }
 
-pub fn file_on_bench(b: Bench, party: u8, bytes: &[u8]) -> Step {
+pub(crate) fn file_on_bench(b: Bench, party: u8, bytes: &[u8]) -> Step {
     let r = b.file(party, bytes);
     let bench = r.bench;
     let answer = r.answer;
@@ -21,7 +21,7 @@ pub fn file_on_bench(b: Bench, party: u8, bytes: &[u8]) -> Step {
     }
 }
 
-pub fn withdraw_on_bench(b: Bench, party: u8) -> Step {
+pub(crate) fn withdraw_on_bench(b: Bench, party: u8) -> Step {
     let r = b.withdraw(party);
     let bench = r.bench;
     let answer = r.answer;
@@ -31,7 +31,7 @@ pub fn withdraw_on_bench(b: Bench, party: u8) -> Step {
     }
 }
 
-pub fn merge_on_bench(b: Bench, out: &mut [u8]) -> Step {
+pub(crate) fn merge_on_bench(b: Bench, out: &mut [u8]) -> Step {
     let r = b.merge(out);
     let bench = r.bench;
     let answer = r.answer;

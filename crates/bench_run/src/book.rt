@@ -6,12 +6,12 @@ use crate::points::BLANK;
 // The entries of a slot.
 const SLOT: usize = 8;
 
-pub fn empty_book() -> [u64; 64] {
+pub(crate) fn empty_book() -> [u64; 64] {
     [BLANK; 64]
 }
 
 // The entries of slot k.
-pub fn slot_list(book: &[u64], k: usize) -> &[u64] {
+pub(crate) fn slot_list(book: &[u64], k: usize) -> &[u64] {
     let at = SLOT * (k % 8);
     if at + SLOT <= book.len() {
         return &book[at..at + SLOT];
@@ -20,7 +20,7 @@ pub fn slot_list(book: &[u64], k: usize) -> &[u64] {
 }
 
 // Whether slot k has a list. A list in force has an entry, and no entry of it is crossed.
-pub fn is_in_force(book: &[u64], k: usize) -> bool {
+pub(crate) fn is_in_force(book: &[u64], k: usize) -> bool {
     entry_at(book, SLOT * (k % 8)) != BLANK
 }
 
@@ -34,13 +34,13 @@ fn put_list(book: &mut [u64], k: usize, list: &[u64]) {
 }
 
 // The book with a list in slot k.
-pub fn with_list(book: [u64; 64], k: usize, list: [u64; 8]) -> [u64; 64] {
+pub(crate) fn with_list(book: [u64; 64], k: usize, list: [u64; 8]) -> [u64; 64] {
     let mut next = book;
     put_list(&mut next, k, &list);
     next
 }
 
 // The book without a list in slot k.
-pub fn without_list(book: [u64; 64], k: usize) -> [u64; 64] {
+pub(crate) fn without_list(book: [u64; 64], k: usize) -> [u64; 64] {
     with_list(book, k, [BLANK; 8])
 }

@@ -39,7 +39,7 @@ fn slot(party: u8) -> usize {
     (std::num::wrapping_sub_u8(party, 1) % 8) as usize
 }
 
-pub fn replay_filing(r: Replay, f: Filing) -> Replay {
+pub(crate) fn replay_filing(r: Replay, f: Filing) -> Replay {
     let book = r.book;
     let k = slot(f.party);
     let is_replacing = is_in_force(&book, k);
@@ -82,7 +82,7 @@ fn withdrawal_answer(book: &[u64], party: u8) -> Answer {
     refused(7, 0)
 }
 
-pub fn replay_withdrawal(r: Replay, party: u8) -> Replay {
+pub(crate) fn replay_withdrawal(r: Replay, party: u8) -> Replay {
     let before = r.bench;
     let step = withdraw_on_bench(before, party);
     let bench = step.bench;
@@ -105,7 +105,7 @@ pub fn replay_withdrawal(r: Replay, party: u8) -> Replay {
     }
 }
 
-pub fn replay_merging(r: Replay, x: u64) -> Replay {
+pub(crate) fn replay_merging(r: Replay, x: u64) -> Replay {
     let book = r.book;
     let outcome = merge_book(&book);
     let needed = length_needed(outcome);

@@ -25,7 +25,7 @@ pub struct Counts {
     pub differences: u64,
 }
 
-pub fn no_counts() -> Counts {
+pub(crate) fn no_counts() -> Counts {
     Counts {
         answers: [0u64; 36],
         lists: 0,
@@ -39,13 +39,13 @@ pub fn no_counts() -> Counts {
 }
 
 // How often a number was expected of a kind of call.
-pub fn times(c: Counts, kind: u64, number: u64) -> u64 {
+pub(crate) fn times(c: Counts, kind: u64, number: u64) -> u64 {
     let i = (kind % 3 * 12 + number % 12) as usize;
     c.answers[i]
 }
 
 // The counts with one call more, of which the second one expects an answer.
-pub fn with_call(c: Counts, kind: u64, expected: Answer, is_same: bool) -> Counts {
+pub(crate) fn with_call(c: Counts, kind: u64, expected: Answer, is_same: bool) -> Counts {
     let mut r = c;
     let i = (kind % 3 * 12 + expected.number % 12) as usize;
     r.answers[i] = std::num::wrapping_add_u64(r.answers[i], 1);
@@ -57,7 +57,7 @@ pub fn with_call(c: Counts, kind: u64, expected: Answer, is_same: bool) -> Count
 }
 
 // The counts with an accepted filing, over a list in force or not.
-pub fn with_filing(c: Counts, is_replacing: bool) -> Counts {
+pub(crate) fn with_filing(c: Counts, is_replacing: bool) -> Counts {
     let mut r = c;
     if is_replacing {
         r.replaced = std::num::wrapping_add_u64(c.replaced, 1);
@@ -76,7 +76,7 @@ fn with_working(c: Counts, working: u64, left: u64) -> Counts {
 }
 
 // The counts with what a merging shows besides its answer.
-pub fn with_merging(c: Counts, o: Outcome, expected: Answer, lent: usize) -> Counts {
+pub(crate) fn with_merging(c: Counts, o: Outcome, expected: Answer, lent: usize) -> Counts {
     if expected.number == 0 {
         return with_working(c, o.working, o.value);
     }

@@ -5,7 +5,7 @@ use crate::points::point_of;
 ghost use Prim.Native.Nat.{_≤_};
 
 // A number that comes of x and k. Bits are mixed twice, since a sum alone would tie the numbers for different k to each other.
-pub fn after(x: u64, k: u64) -> u64 {
+pub(crate) fn after(x: u64, k: u64) -> u64 {
     let a = (x % 4294967296 + k % 65536 * 2654435769) % 4294967296;
     let b = (a ^ (a / 65536)) % 4294967296 * 2146121005 % 4294967296;
     let c = (b ^ (b / 32768)) % 4294967296 * 2221713035 % 4294967296;
@@ -141,7 +141,7 @@ fn slab(f: u64, d: u64, set: u64) -> u64 {
 }
 
 // The four slabs of field f, in some order. Such lists of four fields have 256 pairs, of five 1024.
-pub fn put_slabs(list: &mut [u64], x: u64, style: u64, f: u64) -> usize
+pub(crate) fn put_slabs(list: &mut [u64], x: u64, style: u64, f: u64) -> usize
     ensures { λ r. ⌜ r ≤ 8 ⌝ }
 {
     let mut i: u64 = 0;
@@ -157,7 +157,7 @@ pub fn put_slabs(list: &mut [u64], x: u64, style: u64, f: u64) -> usize
 }
 
 // A list of some kind. Answers its number of entries.
-pub fn put_some(list: &mut [u64], x: u64, style: u64) -> usize
+pub(crate) fn put_some(list: &mut [u64], x: u64, style: u64) -> usize
     ensures { λ r. ⌜ r ≤ 8 ⌝ }
 {
     let kind = x % 16;

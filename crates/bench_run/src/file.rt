@@ -12,7 +12,7 @@ fn put1(s: &mut [u8], at: usize, x: u64) {
     }
 }
 
-pub fn put2(s: &mut [u8], at: usize, x: u64) {
+pub(crate) fn put2(s: &mut [u8], at: usize, x: u64) {
     put1(s, at, x / 256);
     put1(s, std::num::wrapping_add_usize(at, 1), x);
 }
@@ -71,14 +71,14 @@ fn put_record(s: &mut [u8], at: usize, e: u64) {
 }
 
 // The five bytes before the records.
-pub fn put_head(s: &mut [u8], length: u64, version: u64, count: u64) {
+pub(crate) fn put_head(s: &mut [u8], length: u64, version: u64, count: u64) {
     put2(s, 0, length);
     put1(s, 2, version);
     put2(s, 3, count);
 }
 
 // The records of n entries.
-pub fn put_records(s: &mut [u8], list: &[u64], n: usize) {
+pub(crate) fn put_records(s: &mut [u8], list: &[u64], n: usize) {
     let mut at: usize = 5;
     let mut i: usize = 0;
     while i < n {

@@ -28,7 +28,7 @@ pub struct Filing {
 }
 
 // 1 to 8, seldom another number.
-pub fn some_party(x: u64) -> u8 {
+pub(crate) fn some_party(x: u64) -> u8 {
     if x / 16 % 32 == 0 {
         return (x / 512 % 256) as u8;
     }
@@ -63,7 +63,7 @@ fn some_records(x: u64) -> u64 {
 }
 
 // Any list for any party; now and then something is wrong.
-pub fn some_filing(x: u64, style: u64) -> Filing {
+pub(crate) fn some_filing(x: u64, style: u64) -> Filing {
     let mut list = [BLANK; 8];
     let count = put_some(&mut list, after(x, 20), style);
     Filing {
@@ -77,7 +77,7 @@ pub fn some_filing(x: u64, style: u64) -> Filing {
 }
 
 // The slabs of field k % 5 for party k % 8 + 1.
-pub fn slab_filing(x: u64, style: u64, k: u64) -> Filing {
+pub(crate) fn slab_filing(x: u64, style: u64, k: u64) -> Filing {
     let mut list = [BLANK; 8];
     let count = put_slabs(&mut list, x, style, k % 5);
     Filing {
@@ -165,7 +165,7 @@ fn longer_list(list: [u64; 8], n: usize) -> [u64; 33] {
 }
 
 // The file's bytes. Answers how many of them are lent.
-pub fn put_filing(s: &mut [u8], f: Filing) -> usize
+pub(crate) fn put_filing(s: &mut [u8], f: Filing) -> usize
     ensures { λ r. ⌜ r ≤ 960 ⌝ }
 {
     let list = f.list;
@@ -189,7 +189,7 @@ fn list_answer(list: [u64; 8], n: usize, records: usize) -> Answer {
 }
 
 // The answer to a filing: what is wrong first, in the order of the checks.
-pub fn filing_answer(f: Filing) -> Answer {
+pub(crate) fn filing_answer(f: Filing) -> Answer {
     if f.party < 1 {
         return refused(6, 0);
     }

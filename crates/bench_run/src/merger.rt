@@ -255,7 +255,7 @@ fn merged_from(left: [u64; 256], count: usize) -> Outcome {
 }
 
 // Merges the lists of a book, before anything is said of a buffer.
-pub fn merge_book(book: &[u64]) -> Outcome {
+pub(crate) fn merge_book(book: &[u64]) -> Outcome {
     let w = working_list(book);
     if w.lists == 0 {
         return refused_with(8, 0);

@@ -9,7 +9,7 @@ use crate::merger::Outcome;
 ghost use Prim.Native.Nat.{_≤_};
 
 // The length of the file of an outcome.
-pub fn length_needed(o: Outcome) -> usize
+pub(crate) fn length_needed(o: Outcome) -> usize
     ensures { λ r. ⌜ (5 ≤ r) × (r ≤ 7173) ⌝ }
 {
     if o.number != 0 {
@@ -22,7 +22,7 @@ pub fn length_needed(o: Outcome) -> usize
 }
 
 // The length of a buffer: as needed, one byte less, none, far more, or a little more.
-pub fn length_lent(x: u64, needed: usize) -> usize
+pub(crate) fn length_lent(x: u64, needed: usize) -> usize
     requires { ⌜ (5 ≤ needed) × (needed ≤ 7173) ⌝ }
     ensures { λ r. ⌜ r ≤ 7200 ⌝ }
 {
@@ -43,7 +43,7 @@ pub fn length_lent(x: u64, needed: usize) -> usize
 }
 
 // The answer to a merging into a buffer of a length.
-pub fn merging_answer(o: Outcome, needed: usize, lent: usize) -> Answer {
+pub(crate) fn merging_answer(o: Outcome, needed: usize, lent: usize) -> Answer {
     if o.number != 0 {
         return refused(o.number, o.value);
     }
@@ -54,7 +54,7 @@ pub fn merging_answer(o: Outcome, needed: usize, lent: usize) -> Answer {
 }
 
 // Writes the file of an outcome that is merged.
-pub fn put_outcome(s: &mut [u8], o: Outcome, needed: usize)
+pub(crate) fn put_outcome(s: &mut [u8], o: Outcome, needed: usize)
     requires { ⌜ 5 ≤ needed ⌝ }
 {
     let entries = o.entries;
@@ -75,7 +75,7 @@ fn is_same_buffer(a: &[u8; 7200], b: &[u8; 7200]) -> bool {
 }
 
 // Whether an answer and a buffer are those that are expected.
-pub fn is_expected(
+pub(crate) fn is_expected(
     answer: Answer,
     expected: Answer,
     buffer: &[u8; 7200],

@@ -9,24 +9,24 @@ pub const POINTS: u64 = 1024;
 // An entry that holds no point: each low end is 3 and each high end 0.
 pub const BLANK: u64 = 1023;
 
-pub fn low_of(e: u64) -> u64 {
+pub(crate) fn low_of(e: u64) -> u64 {
     e % 1024
 }
 
-pub fn high_of(e: u64) -> u64 {
+pub(crate) fn high_of(e: u64) -> u64 {
     e / 1024 % 1024
 }
 
-pub fn set_of(e: u64) -> u64 {
+pub(crate) fn set_of(e: u64) -> u64 {
     e / 1048576 % 65536
 }
 
-pub fn entry_of(low: u64, high: u64, set: u64) -> u64 {
+pub(crate) fn entry_of(low: u64, high: u64, set: u64) -> u64 {
     low % 1024 + high % 1024 * 1024 + set % 65536 * 1048576
 }
 
 // Digit f of a point; the protocol's is digit 4.
-pub fn digit(p: u64, f: u64) -> u64 {
+pub(crate) fn digit(p: u64, f: u64) -> u64 {
     if f == 0 {
         return p / 256 % 4;
     }
@@ -43,7 +43,13 @@ pub fn digit(p: u64, f: u64) -> u64 {
 }
 
 // The point with these digits.
-pub fn point_of(local: u64, remote: u64, local_port: u64, remote_port: u64, protocol: u64) -> u64 {
+pub(crate) fn point_of(
+    local: u64,
+    remote: u64,
+    local_port: u64,
+    remote_port: u64,
+    protocol: u64,
+) -> u64 {
     local % 4 * 256 + remote % 4 * 64 + local_port % 4 * 16 + remote_port % 4 * 4 + protocol % 4
 }
 
@@ -55,7 +61,7 @@ fn is_in_range(e: u64, p: u64, f: u64) -> bool {
     digit(p, f) <= digit(high_of(e), f)
 }
 
-pub fn holds_point(e: u64, p: u64) -> bool {
+pub(crate) fn holds_point(e: u64, p: u64) -> bool {
     if !is_in_range(e, p, 0) {
         return false;
     }
@@ -72,7 +78,7 @@ pub fn holds_point(e: u64, p: u64) -> bool {
 }
 
 // Whether some low end is above its high end.
-pub fn is_crossed(e: u64) -> bool {
+pub(crate) fn is_crossed(e: u64) -> bool {
     let low = low_of(e);
     let high = high_of(e);
     if digit(high, 0) < digit(low, 0) {
@@ -105,7 +111,7 @@ fn lesser_digit(p: u64, q: u64, f: u64) -> u64 {
 }
 
 // Selectors and sets of two entries intersected.
-pub fn pair_of(d: u64, e: u64) -> u64 {
+pub(crate) fn pair_of(d: u64, e: u64) -> u64 {
     let low = low_of(d);
     let other_low = low_of(e);
     let high = high_of(d);

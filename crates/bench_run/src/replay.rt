@@ -45,7 +45,7 @@ fn opened(counts: Counts) -> Replay {
 }
 
 // An opening, 8 to 16 calls and a merging.
-pub fn replay_list(c: Counts, x: u64) -> Counts {
+pub(crate) fn replay_list(c: Counts, x: u64) -> Counts {
     let mut r = opened(c);
     let mut i: u64 = 0;
     while i < 8 + x / 65536 % 9 {
