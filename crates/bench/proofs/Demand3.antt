@@ -1,37 +1,34 @@
 -- Demand 3 of what a merging answers and writes, with covering lists in force whose merged list reads back from its file.
 -- Assumes nothing.
-use Prim.Native.Nat.{ℕ, zero, suc, _≤_, _<_}
+use Prim.Native.Nat.{ℕ}
 use native.Mathlib.Omega.{arith}
 use mathlib.Core.Path.{_≡_, refl, sym, _∙_, ap, subst}
-use mathlib.Core.Logic.{_↔_, _⊎_, inl, inr}
+use mathlib.Core.Logic.{_⊎_, inr}
 use mathlib.Core.Bool.{Bool, true, false, not, cond}
 use mathlib.Core.List.{List, [], _∷_, _++_, append-nil}
 use lib.Dec.{ltb}
 use lib.ListN.{length, take, drop, getD}
 use lib.Seq.{take-at}
-use borrow.Author.Tests.{ltb-true, ltb-false, lt-ltb, le-ltb}
+use borrow.Author.Tests.{lt-ltb, le-ltb}
 use Rattle.policy.specs.declared.header.Header.{Header}
 use Rattle.policy.specs.declared.header.Found.{Found}
 use Rattle.policy.specs.declared.header.Found.the-variants.{At, Nothing}
 use Rattle.policy.specs.declared.entry.Entry.{Entry}
-use Rattle.policy.specs.declared.refusal.Refusal.{Refusal}
 use Rattle.policy.specs.declared.refusal.Refusal.the-variants.{Bare, Crowded, Conflict, Narrow}
-use Rattle.policy.specs.Header.{before, among, headers}
-use Rattle.policy.specs.Policy.{allowed, isCaught, caught, Covering}
+use Rattle.policy.specs.Header.{among, headers}
+use Rattle.policy.specs.Policy.{allowed, caught}
 use Rattle.policy.specs.Refusals.{Answer, refusal, accepted, isAccepted, numbers, refuse, firstOf}
-use Rattle.policy.proofs.Bool.{case, clash, is-false, not-true}
-use Rattle.policy.proofs.Rows.{refusal-clash}
+use Rattle.policy.proofs.Bool.{clash, is-false, not-true}
 use Rattle.wire.specs.Format.{listIn, fileSize, fileOf}
-use Rattle.reconcile.specs.Crossproduct.{In}
-use Rattle.reconcile.specs.Rules.{Working, list, crowded, working, Merging, bare, overfull, conflict, merged, finished, mergeOf, conflictOf, commonActions, lacking, isEmpty, permits, allPermit, same}
+use Rattle.reconcile.specs.Rules.{Working, list, crowded, working, Merging, bare, overfull, conflict, merged, finished, mergeOf, conflictOf, commonActions, lacking, same}
 use Rattle.reconcile.proofs.Decide.{Witness}
 use Rattle.reconcile.proofs.Common.{same-by, common-permits, common-caught, empty-permits, permits-empty}
-use Rattle.reconcile.proofs.Merging.{Merges, merges, crowded-list, merged-allows, merged-permits, merged-reconciles, merged-widest, merged-tight, merged-covers, Conflicts, conflict-tells, conflict-made, conflict-some, accepted-when}
+use Rattle.reconcile.proofs.Merging.{merged-permits, merged-reconciles, merged-widest, merged-tight, merged-covers, Conflicts, conflict-tells, conflict-made, conflict-some, accepted-when}
 use Rattle.wire.specs.Answers.{ifAccepted}
-use Rattle.wire.specs.Writing.{placed, tooNarrow}
+use Rattle.wire.specs.Writing.{placed}
 use Rattle.wire.proofs.Records.{length-file}
 use Rattle.reconcile.specs.Ending.{answerOf, fileFor}
-use Rattle.bench.specs.Demand3.{NoCommonAction, LeastWithout, InForceAndRoomy, Accepted, MergedList, Demand3}
+use Rattle.bench.specs.Demand3.{NoCommonAction, LeastWithout, Accepted, MergedList, Demand3}
 use Rattle.bench.proofs.Trace.{AllCovering}
 
 -- a merged list is read again from the start of what holds its file

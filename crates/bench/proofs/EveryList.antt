@@ -2,16 +2,15 @@
 -- Assumes nothing.
 use Prim.Native.Nat.{ℕ}
 use mathlib.Core.Path.{_≡_, refl, sym, ap, subst}
-use mathlib.Core.Bool.{Bool, true, false, cond}
+use mathlib.Core.Bool.{Bool, false, cond}
 use mathlib.Core.List.{List, [], _∷_, _++_}
-use Rattle.policy.specs.declared.entry.Entry.{Entry}
 use Rattle.policy.specs.Header.{headers}
 use Rattle.policy.specs.Refusals.{Answer, isAccepted}
-use Rattle.wire.specs.Format.{headSize, countIn, listIn}
-use Rattle.wire.proofs.Records.{Bytes, AllFit, entries-fit}
+use Rattle.wire.specs.Format.{headSize, countIn}
+use Rattle.wire.proofs.Records.{AllFit, entries-fit}
 use Rattle.reconcile.specs.Rules.{mergeOf}
 use Rattle.bench.specs.declared.calls.Bench.{Bench}
-use Rattle.bench.specs.Book.{Book, emptyBook, inForce}
+use Rattle.bench.specs.Book.{Book, inForce}
 use Rattle.bench.specs.Answers.{filingOf, withdrawalOf, mergingOf}
 use Rattle.bench.specs.Held.{vacantSlot, slotWith, bookOf, withSlot}
 use Rattle.bench.specs.Calls.{Call, filing, withdrawal, merging, benchStep, benchAfter, bookAfter}

@@ -1,28 +1,28 @@
 -- The numbers of a merged list fit their widths where those of the lists in force do, so it reads back from its file.
 -- Assumes nothing.
-use Prim.Native.Nat.{ℕ, zero, suc, _<_, _≤_, _^_, min, max}
+use Prim.Native.Nat.{ℕ, zero, suc, min, max}
 use native.Mathlib.Omega.{arith}
-use mathlib.Core.Path.{_≡_, refl, sym, _∙_, ap, subst}
+use mathlib.Core.Path.{_≡_, refl, sym, subst}
 use mathlib.Core.Logic.{inl, inr}
-use mathlib.Core.Bool.{Bool, true, false, cond, _&&_}
-use mathlib.Core.List.{List, [], _∷_, _++_, map, append-nil}
-use lib.Bits.{bitAnd, and-lt}
+use mathlib.Core.Bool.{Bool, true, false, cond}
+use mathlib.Core.List.{List, [], _∷_, _++_, map}
+use lib.Bits.{and-lt}
 use lib.Dec.{ltb, leb}
 use lib.ListN.{length}
 use borrow.Author.Tests.{ltb-true, lt-ltb}
 use Rattle.policy.specs.declared.region.Range.{Range}
 use Rattle.policy.specs.declared.entry.Entry.{Entry}
 use Rattle.policy.specs.Row.{Row, fits}
-use Rattle.policy.specs.Box.{proper, lows, highsFit, meet, common}
+use Rattle.policy.specs.Box.{proper, lows, highsFit, meet}
 use Rattle.policy.specs.Header.{arity, sizes, headers}
 use Rattle.policy.specs.Entry.{selector}
 use Rattle.policy.proofs.Bool.{and-intro, and-left, and-right}
-use Rattle.wire.specs.Format.{listLimit, listIn, fileOf, fileSize}
-use Rattle.wire.proofs.Records.{Fits, AllFit, length-file}
+use Rattle.wire.specs.Format.{listLimit, listIn, fileOf}
+use Rattle.wire.proofs.Records.{Fits, AllFit}
 use Rattle.wire.proofs.RoundTrip.{written-and-read}
 use Rattle.reconcile.specs.Crossproduct.{In, both}
-use Rattle.reconcile.specs.Rules.{cross, dropEmpty, shadowed, dropShadowed, trimmed, Working, list, crowded, limited, next, nextAll, needless, struckFrom, struck, merged, mergeOf}
-use Rattle.reconcile.proofs.Merging.{Merges, merges, merged-few}
+use Rattle.reconcile.specs.Rules.{cross, dropEmpty, shadowed, dropShadowed, trimmed, Working, list, crowded, limited, next, nextAll, needless, struckFrom, merged, mergeOf}
+use Rattle.reconcile.proofs.Merging.{merges, merged-few}
 
 -- ---- the intersection of two entries
 

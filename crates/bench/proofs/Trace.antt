@@ -1,13 +1,12 @@
 -- The bench after any list of calls holds the book that 01 reckons, and every list in the book is a filed one.
 -- Assumes nothing.
-use Prim.Native.Nat.{ℕ, zero, suc, _-_, _≤_, _<_}
-use native.Mathlib.Omega.{arith}
+use Prim.Native.Nat.{ℕ, zero, suc, _-_}
 use mathlib.Core.Path.{_≡_, refl, sym, _∙_, ap, subst}
 use mathlib.Core.Logic.{inl, inr}
 use mathlib.Core.Bool.{Bool, true, false, cond}
 use mathlib.Core.List.{List, [], _∷_, _++_, map}
-use mathlib.Core.Option.{Option, none, some}
-use lib.ListN.{length, getD, set, replicate}
+use mathlib.Core.Option.{none, some}
+use lib.ListN.{set}
 use Rattle.policy.specs.declared.entry.Entry.{Entry}
 use Rattle.policy.specs.Header.{headers}
 use Rattle.policy.specs.Policy.{Covering}
@@ -15,9 +14,8 @@ use Rattle.policy.specs.Refusals.{isAccepted}
 use Rattle.wire.specs.Format.{filedLimit, countIn, listIn}
 use Rattle.wire.proofs.Records.{Bytes}
 use Rattle.reconcile.specs.Crossproduct.{In}
-use Rattle.bench.specs.declared.slots.Slot.{Slot}
 use Rattle.bench.specs.declared.calls.Bench.{Bench}
-use Rattle.bench.specs.Book.{parties, Book, emptyBook, inForce}
+use Rattle.bench.specs.Book.{Book, emptyBook, inForce}
 use Rattle.bench.specs.Answers.{filingOf, withdrawalOf}
 use Rattle.bench.specs.Held.{vacantSlot, slotWith, listInSlot, bookOf, openBench, withSlot}
 use Rattle.bench.specs.Calls.{Call, filing, withdrawal, merging, benchStep, benchFrom, benchAfter, bookStep, bookFrom, bookAfter}

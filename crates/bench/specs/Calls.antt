@@ -1,8 +1,8 @@
 -- Lists of calls: the bench that they make, and the book that 01 reckons from their arguments.
 use Prim.Native.Nat.{ℕ, _-_}
-use mathlib.Core.Bool.{Bool, true, false, cond}
-use mathlib.Core.List.{List, [], _∷_, _++_}
-use mathlib.Core.Option.{Option, none, some}
+use mathlib.Core.Bool.{cond}
+use mathlib.Core.List.{List, [], _∷_}
+use mathlib.Core.Option.{none, some}
 use lib.ListN.{set}
 use Rattle.policy.specs.Refusals.{isAccepted}
 use Rattle.wire.specs.Format.{listIn}

@@ -19,7 +19,7 @@ use Rattle.wire.specs.Format.{headSize, listLimit, countIn, listIn}
 use Rattle.wire.specs.Checks.{checked}
 use Rattle.region.specs.Records.{recordsIn}
 use Rattle.region.specs.ListChecks.{listChecks, listChecksOf}
-use Rattle.region.proofs.ListChecks.{GoodList, passes-tell, good-passes, lent-records}
+use Rattle.region.proofs.ListChecks.{passes-tell, good-passes, lent-records}
 use Rattle.compare.specs.Comparison.{FileAnswer, compared, about, excessOf, verdict, comparisonOf}
 use Rattle.compare.specs.declared.files.Compared.the-variants.{Refines, Exceeds, First, Second}
 

@@ -1,7 +1,7 @@
 -- 01, "Examples": those marked P, as theorems about the meanings. P3, P4 and P6 to P11 are computed by the models and carried over.
 -- Assumes nothing.
 use Prim.Native.Nat.{ℕ, _+_}
-use mathlib.Core.Path.{_≡_, refl, _∙_}
+use mathlib.Core.Path.{_≡_, refl}
 use mathlib.Core.Bool.{true, false}
 use mathlib.Core.List.{List, [], _∷_}
 use Rattle.policy.specs.declared.header.Header.{Header}

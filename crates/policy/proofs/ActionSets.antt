@@ -9,7 +9,7 @@ use lib.Arith.{bin-ind}
 use lib.Bits.{bitAnd, and-step, and-shr, and-comm, and-self}
 use lib.Dec.{eqb}
 use borrow.Author.Tests.{eqb-true, eqb-false, eq-eqb}
-use Rattle.policy.specs.Actions.{has, shared, subset}
+use Rattle.policy.specs.Actions.{has, subset}
 use Rattle.policy.proofs.Bool.{clash}
 
 and-half : (a b : ℕ) → bitAnd a b / 2 ≡ bitAnd (a / 2) (b / 2)

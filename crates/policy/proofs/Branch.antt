@@ -1,8 +1,6 @@
 -- The search of a box goes by the pieces that a selector leaves. Over any set of headers.
 -- Assumes nothing.
-use Prim.Native.Nat.{ℕ}
 use mathlib.Core.Path.{_≡_, refl, sym, _∙_, ap, ap₂, fun-ext}
-use mathlib.Core.Logic.{_⊎_, inl, inr}
 use mathlib.Core.Bool.{Bool, true, false, not, cond, _&&_, _||_, and-false, and-true, and-or-distrib-left}
 use mathlib.Core.List.{List, [], _∷_, map}
 use Rattle.policy.specs.declared.header.Header.{Header}
@@ -10,10 +8,10 @@ use Rattle.policy.specs.declared.header.Found.{Found}
 use Rattle.policy.specs.declared.header.Found.the-variants.{At, Nothing}
 use Rattle.policy.specs.Box.{inside, proper, lows, meet}
 use Rattle.policy.specs.Cut.{cut}
-use Rattle.policy.specs.Header.{arity, fields, header, before, Box, lies, Headers, inAny, among}
+use Rattle.policy.specs.Header.{arity, fields, header, Box, lies, Headers, inAny, among}
 use Rattle.policy.specs.Found.{lesser, minOver, minFrom}
 use Rattle.policy.specs.Least.{least, leastIn, always}
-use Rattle.policy.proofs.Bool.{case, clash, is-false, and-intro, and-left, and-right}
+use Rattle.policy.proofs.Bool.{clash, is-false, and-intro, and-left}
 use Rattle.policy.proofs.Box.{any, cut-is, meet-is, corner-in, in-proper, none-before}
 use Rattle.policy.proofs.Least.{agree, union, lesser-assoc, least-at, least-none, at-tells, over, over-from}
 

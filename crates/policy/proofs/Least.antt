@@ -17,7 +17,7 @@ use Rattle.policy.specs.Box.{inside, highsFit}
 use Rattle.policy.specs.Header.{arity, fields, header, before, Box, lies, sizes, allFit, Headers, inAny, among}
 use Rattle.policy.specs.Found.{here, lesser, minOver, minFrom}
 use Rattle.policy.specs.Least.{First, first, first-is, scan, least}
-use Rattle.policy.proofs.Bool.{case, clash, is-false, and-intro, and-left, and-right, or-elim, or-left, or-right}
+use Rattle.policy.proofs.Bool.{clash, is-false, and-intro, and-left, and-right, or-elim, or-left, or-right}
 use Rattle.policy.proofs.Box.{any, le-high, in-first, in-rest}
 use Rattle.policy.proofs.Order.{Order, earlier, equal, later, order, pre-cases, pre-trans, pre-irrefl}
 

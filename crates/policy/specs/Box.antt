@@ -1,6 +1,6 @@
 -- Inclusive ranges, and rows of them: 01's selectors and boxes.
-use Prim.Native.Nat.{ℕ, zero, suc, _+_, min, max}
-use mathlib.Core.Bool.{Bool, true, false, cond, _&&_}
+use Prim.Native.Nat.{ℕ, zero, suc, min, max}
+use mathlib.Core.Bool.{Bool, true, _&&_}
 use lib.Dec.{ltb, leb}
 use Rattle.policy.specs.declared.region.Range.{Range}
 use Rattle.policy.specs.Row.{Row}

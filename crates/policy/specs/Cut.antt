@@ -1,6 +1,6 @@
 -- What a selector leaves of a box (01, "Searching a region"), as smaller boxes. An empty piece is a crossed one.
 use Prim.Native.Nat.{ℕ, zero, suc, _+_, _-_, min, max}
-use mathlib.Core.Bool.{Bool, true, false, cond}
+use mathlib.Core.Bool.{cond}
 use mathlib.Core.List.{List, [], _∷_, map}
 use lib.Dec.{ltb}
 use Rattle.policy.specs.declared.region.Range.{Range}

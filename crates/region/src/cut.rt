@@ -2,8 +2,7 @@
 use policy::region::Range;
 use policy::region::Region;
 ghost use mathlib.Core.Path.{_≡_};
-ghost use Prim.Native.Nat.{ℕ, suc, _<_};
-ghost use mathlib.Core.Logic.{_⊎_};
+ghost use Prim.Native.Nat.{_<_};
 ghost use Rattle.policy.specs.Cut.{above};
 ghost use Rattle.policy.specs.Header.{arity, ranges};
 ghost use Rattle.region.specs.Pieces.{upTo, atField, Next, Offered};

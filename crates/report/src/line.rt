@@ -7,7 +7,6 @@ use policy::header::Header;
 use policy::refusal::Refusal;
 use policy::refusal::number_of;
 use wire::header::header_bytes;
-ghost use mathlib.Core.Path.{_≡_};
 ghost use mathlib.Core.List.{_++_};
 ghost use Prim.Native.Nat.{_≤_};
 ghost use lib.ListN.{length};

@@ -5,7 +5,7 @@ use mathlib.Core.Path.{_≡_, sym, _∙_, ap}
 use mathlib.Core.Bool.{Bool, cond}
 use mathlib.Core.List.{List}
 use Rattle.policy.specs.declared.refusal.Refusal.{Refusal}
-use Rattle.policy.specs.Refusals.{Answer, refusal, accepted, isAccepted}
+use Rattle.policy.specs.Refusals.{Answer, refusal, accepted}
 use Rattle.policy.proofs.Rows.{refusal-refuses}
 use Rattle.wire.specs.Answers.{ifAccepted}
 

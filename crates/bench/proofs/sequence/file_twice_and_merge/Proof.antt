@@ -4,12 +4,6 @@ use mathlib.Core.List.{[]}
 use borrow.Author.Needs.{needs}
 use Rattle.bench.proofs.sequence.file_twice_and_merge.Statement.{statement}
 use Rattle.bench.proofs.sequence.file_twice_and_merge.Tie as tie
-use Rattle.bench.proofs.sequence.file_twice_and_merge.Reads as reads
-use Rattle.bench.proofs.sequence.file_twice_and_merge.Lts as lts
-use Rattle.bench.proofs.calls.Bench.file.Reads as file-reads
-use Rattle.bench.proofs.calls.Bench.merge.Reads as merge-reads
-use Rattle.bench.proofs.calls.Bench.open.Reads as open-reads
-use Rattle.bench.proofs.calls.Bench.withdraw.Reads as withdraw-reads
 
 open-requires : tie.Need-open-requires
 open-requires c κs = search needs

@@ -7,10 +7,6 @@ use Rattle.policy.specs.Header.{arity}
 use borrow.Author.Needs.{needs}
 use Rattle.policy.proofs.entry.is_crossed.Statement.{statement}
 use Rattle.policy.proofs.entry.is_crossed.Tie as tie
-use Rattle.policy.proofs.entry.is_crossed.Reads as reads
-use Rattle.policy.proofs.entry.is_crossed.Lts as lts
-use Rattle.policy.proofs.entry.selector_of.Reads as selector-of-reads
-use Rattle.policy.proofs.region.is_proper.Reads as is-proper-reads
 
 selector-of-requires : tie.Need-selector-of-requires
 selector-of-requires c κs = search needs

@@ -5,10 +5,6 @@ use Rattle.policy.specs.Header.{Box, lies}
 use borrow.Author.Needs.{needs}
 use Rattle.policy.proofs.entry.matches_header.Statement.{statement}
 use Rattle.policy.proofs.entry.matches_header.Tie as tie
-use Rattle.policy.proofs.entry.matches_header.Reads as reads
-use Rattle.policy.proofs.entry.matches_header.Lts as lts
-use Rattle.policy.proofs.entry.selector_of.Reads as selector-of-reads
-use Rattle.policy.proofs.region.holds.Reads as holds-reads
 
 selector-of-requires : tie.Need-selector-of-requires
 selector-of-requires c κs = search needs

@@ -3,8 +3,6 @@
 use Rattle.policy.proofs.Branches.{differs, agrees, last-differs}
 use Rattle.policy.proofs.header.is_before.Statement.{statement}
 use Rattle.policy.proofs.header.is_before.Tie as tie
-use Rattle.policy.proofs.header.is_before.Reads as reads
-use Rattle.policy.proofs.header.is_before.Lts as lts
 
 returns : tie.Need-returns
 returns c = search (differs, agrees, last-differs) depth 12

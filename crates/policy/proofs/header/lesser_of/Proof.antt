@@ -4,9 +4,6 @@ use Rattle.policy.proofs.Branches.{lesser-first, lesser-earlier, lesser
 use borrow.Author.Needs.{needs}
 use Rattle.policy.proofs.header.lesser_of.Statement.{statement}
 use Rattle.policy.proofs.header.lesser_of.Tie as tie
-use Rattle.policy.proofs.header.lesser_of.Reads as reads
-use Rattle.policy.proofs.header.lesser_of.Lts as lts
-use Rattle.policy.proofs.header.is_before.Reads as is-before-reads
 
 enum-told : tie.Need-enum-told
 enum-told c = search needs

@@ -4,8 +4,6 @@ use native.Mathlib.Omega.{arith}
 use Rattle.policy.proofs.Branches.{ends-are}
 use Rattle.policy.proofs.region.common_part.Statement.{statement}
 use Rattle.policy.proofs.region.common_part.Tie as tie
-use Rattle.policy.proofs.region.common_part.Reads as reads
-use Rattle.policy.proofs.region.common_part.Lts as lts
 
 returns : tie.Need-returns
 returns c = ends-are (omega arith) (omega arith)

@@ -4,9 +4,6 @@ use Rattle.policy.proofs.Branches.{stops, goes-on, ends}
 use borrow.Author.Needs.{needs}
 use Rattle.policy.proofs.region.holds.Statement.{statement}
 use Rattle.policy.proofs.region.holds.Tie as tie
-use Rattle.policy.proofs.region.holds.Reads as reads
-use Rattle.policy.proofs.region.holds.Lts as lts
-use Rattle.policy.proofs.region.is_within.Reads as is-within-reads
 
 is-within-requires : tie.Need-is-within-requires
 is-within-requires c κs = search needs

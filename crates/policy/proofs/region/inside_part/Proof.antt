@@ -5,9 +5,6 @@ use mathlib.Core.Path.{refl}
 use borrow.Author.Needs.{needs}
 use Rattle.policy.proofs.region.inside_part.Statement.{statement}
 use Rattle.policy.proofs.region.inside_part.Tie as tie
-use Rattle.policy.proofs.region.inside_part.Reads as reads
-use Rattle.policy.proofs.region.inside_part.Lts as lts
-use Rattle.policy.proofs.region.common_part.Reads as common-part-reads
 
 common-part-requires : tie.Need-common-part-requires
 common-part-requires c κs = search needs

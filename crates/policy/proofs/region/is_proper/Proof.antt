@@ -3,8 +3,6 @@
 use Rattle.policy.proofs.Branches.{stops-lt, goes-on-le, ends}
 use Rattle.policy.proofs.region.is_proper.Statement.{statement}
 use Rattle.policy.proofs.region.is_proper.Tie as tie
-use Rattle.policy.proofs.region.is_proper.Reads as reads
-use Rattle.policy.proofs.region.is_proper.Lts as lts
 
 returns : tie.Need-returns
 returns c = search (stops-lt, goes-on-le, ends) depth 12

@@ -3,8 +3,6 @@
 use Rattle.policy.proofs.Branches.{stops-lt, goes-on-le}
 use Rattle.policy.proofs.region.is_within.Statement.{statement}
 use Rattle.policy.proofs.region.is_within.Tie as tie
-use Rattle.policy.proofs.region.is_within.Reads as reads
-use Rattle.policy.proofs.region.is_within.Lts as lts
 
 returns : tie.Need-returns
 returns c = search stops-lt
