@@ -1,16 +1,16 @@
 -- A box that is cut where another ends in one field: the two parts are the whole, and the part above is outside the other.
 -- Assumes nothing.
-use Prim.Native.Nat.{ℕ, zero, suc, _<_, _≤_, _+_, min}
+use Prim.Native.Nat.{ℕ, zero, suc, _<_, _≤_, _+_, min, max}
 use native.Mathlib.Omega.{arith}
 use mathlib.Core.Path.{_≡_, refl, sym, _∙_, ap, ap₂, fun-ext}
 use mathlib.Core.Bool.{Bool, true, false, not, cond, _&&_, _||_, and-assoc}
 use lib.Dec.{ltb, leb}
-use borrow.Author.Tests.{ltb-true, ltb-false, lt-ltb, le-ltb}
+use borrow.Author.Tests.{ltb-true, ltb-false, leb-true, lt-ltb, le-ltb, le-leb}
 use Rattle.policy.specs.declared.header.Header.{Header}
 use Rattle.policy.specs.declared.region.Range.{Range}
 use Rattle.policy.specs.Row.{Row}
-use Rattle.policy.specs.Box.{within, inside, proper, lows}
-use Rattle.policy.specs.Cut.{above}
+use Rattle.policy.specs.Box.{range, within, inside, proper, lows}
+use Rattle.policy.specs.Cut.{empty, above}
 use Rattle.policy.specs.Header.{arity, fields, Box, lies, Headers}
 use Rattle.policy.specs.Found.{lesser}
 use Rattle.policy.specs.Least.{least, leastIn}
@@ -134,6 +134,24 @@ lower-holds (suc k) zero b s p c =
 lower-holds (suc k) (suc f) b s p c =
     and-intro (in-first k b (lows (suc k) b) (corner-in (suc k) b p))
     (lower-holds k f (b .1) (s .1) (and-right (leb (b .0 .low) (b .0 .high)) (proper k (b .1)) p) (in-rest k s (lows (suc k) b) c))
+
+-- the part above is proper, as the box is
+pub upper-proper : (k f : ℕ) (b s : Row Range k) → Short k f b s → proper k b ≡ true → proper k (atField above k f b s) ≡ true
+upper-proper zero f b s o p = absurd o
+upper-proper (suc k) zero b s o p =
+    and-intro
+    (ap (λ (t : Bool). leb (part t .low) (part t .high)) (lt-ltb (s .0 .high) (b .0 .high) o)
+    ∙ le-leb (max (b .0 .low) (s .0 .high + 1)) (b .0 .high) (higher (b .0 .low) (s .0 .high) (b .0 .high) (leb-true (b .0 .low) (b .0 .high) (and-left (leb (b .0 .low) (b .0 .high)) (proper k (b .1)) p)) o))
+    (and-right (leb (b .0 .low) (b .0 .high)) (proper k (b .1)) p)
+  where
+    part : Bool → Range
+    part t = cond t (range (max (b .0 .low) (s .0 .high + 1)) (b .0 .high)) empty
+
+    higher : (l m n : ℕ) → l ≤ n → m < n → max l (m + 1) ≤ n
+    higher l m n p q = omega arith
+upper-proper (suc k) (suc f) b s o p =
+    and-intro (and-left (leb (b .0 .low) (b .0 .high)) (proper k (b .1)) p)
+    (upper-proper k f (b .1) (s .1) o (and-right (leb (b .0 .low) (b .0 .high)) (proper k (b .1)) p))
 
 -- a box that holds the low corner of b, and reaches as far in every field, holds b
 pub covers : (k : ℕ) (b s : Row Range k) (x : Row ℕ k) → inside k s (lows k b) ≡ true → Reaches k b s → inside k b x ≡ true → inside k s x ≡ true

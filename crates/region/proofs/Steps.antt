@@ -3,7 +3,7 @@
 use Prim.Native.Nat.{ℕ, _<_, _≤_, _-_}
 use native.Mathlib.Omega.{arith}
 use mathlib.Core.Path.{_≡_, refl, sym, _∙_, ap, subst}
-use mathlib.Core.Bool.{Bool, true, false, _&&_}
+use mathlib.Core.Bool.{Bool, true, false, not, _&&_}
 use mathlib.Core.List.{List}
 use Rattle.policy.specs.declared.header.Header.{Header}
 use Rattle.policy.specs.declared.header.Found.{Found}
@@ -16,15 +16,15 @@ use Rattle.policy.specs.Header.{arity, fields, header, Box, lies, Headers, rang
 use Rattle.policy.specs.Found.{lesser}
 use Rattle.policy.specs.Least.{leastIn}
 use Rattle.policy.specs.Policy.{missed}
-use Rattle.policy.proofs.Bool.{is-false, clash, and-left, and-right}
+use Rattle.policy.proofs.Bool.{is-false, clash, not-true, not-false, and-left, and-right}
 use Rattle.policy.proofs.Box.{in-proper}
 use Rattle.policy.proofs.Least.{least-none, lesser-assoc}
-use Rattle.policy.proofs.Branch.{crossed-none, corner}
+use Rattle.policy.proofs.Branch.{corner}
 use Rattle.region.specs.declared.pick.Picked.{Picked}
 use Rattle.region.specs.declared.pick.Picked.the-variants.{Held, Free, Covered}
 use Rattle.region.specs.Corner.{Within, improves, holds, Picks, meeting}
 use Rattle.region.specs.Pieces.{upTo, atField, Short, Next}
-use Rattle.region.proofs.Split.{split, upper-part, upper-outside, lower-part, lower-lows, lower-holds, shorts, shorts-fall}
+use Rattle.region.proofs.Split.{split, upper-part, upper-outside, upper-proper, lower-part, lower-lows, lower-holds, shorts, shorts-fall}
 use Rattle.region.proofs.Meeting.{meets-corner, meeting-le, meeting-lt}
 use Rattle.region.proofs.Fields.{next-short, next-reaches}
 use Rattle.region.proofs.Opening.{none-left, improved, pruned}
@@ -48,32 +48,29 @@ covered-none hs P b c = least-none hs (λ h. lies b h && P h) λ g a. is-false (
 module _ (hs : Headers) (es : List Entry) where
   -- ---- the answers
 
-  pub found-crossed : (x : Box) (best : Found) (t : Bool) → t ≡ proper arity x → t ≡ false → best ≡ lesser (leastIn hs x (missed es)) best
-  found-crossed x best t e p = ap (λ (r : Found). lesser r best) (sym (crossed-none hs (missed es) x (sym e ∙ p)))
-
   pub found-covered : (x : Box) (best : Found) (r : Picked) → Picks es x r → r ≡ Covered → best ≡ lesser (leastIn hs x (missed es)) best
   found-covered x best r y q = ap (λ (r : Found). lesser r best) (sym (covered-none hs (missed es) x (subst (Picks es x) q y)))
 
-  pub found-pruned : (x : Box) (best : Found) (c : Header) (t : Bool) → c ≡ header (lows arity x) → t ≡ improves c best → t ≡ false
+  pub found-pruned : (x : Box) (best : Found) (c : Header) (t : Bool) → c ≡ header (lows arity x) → t ≡ improves c best → not t ≡ true
       → best ≡ lesser (leastIn hs x (missed es)) best
-  found-pruned x best c t p e q = pruned hs (missed es) x best (ap (λ (h : Header). improves h best) (sym p) ∙ sym e ∙ q)
+  found-pruned x best c t p e q = pruned hs (missed es) x best (ap (λ (h : Header). improves h best) (sym p) ∙ sym e ∙ not-true q)
 
-  pub found-corner : (x : Box) (best : Found) (c : Header) (t u : Bool) (r : Picked) → Within hs x → t ≡ proper arity x → t ≡ true
-      → c ≡ header (lows arity x) → u ≡ improves c best → u ≡ true → Picks es x r → r ≡ Free
+  pub found-corner : (x : Box) (best : Found) (c : Header) (t : Bool) (r : Picked) → Within hs x → proper arity x ≡ true
+      → c ≡ header (lows arity x) → t ≡ improves c best → not t ≡ false → Picks es x r → r ≡ Free
       → At c ≡ lesser (leastIn hs x (missed es)) best
-  found-corner x best c t u r w e p g i j y q =
+  found-corner x best c t r w p g i j y q =
       ap At g
-      ∙ improved (header (lows arity x)) best (ap (λ (h : Header). improves h best) (sym g) ∙ sym i ∙ j)
-      ∙ ap (λ (r : Found). lesser r best) (sym (corner hs x (missed es) w (sym e ∙ p) (subst (Picks es x) q y)))
+      ∙ improved (header (lows arity x)) best (ap (λ (h : Header). improves h best) (sym g) ∙ sym i ∙ not-false j)
+      ∙ ap (λ (r : Found). lesser r best) (sym (corner hs x (missed es) w p (subst (Picks es x) q y)))
 
   -- ---- the cuts
 
   held : (x : Box) (s : Region) (r : Picked) → Picks es x r → r ≡ Held s → Picks es x (Held s)
   held x s r y q = subst (Picks es x) q y
 
-  pub ready : (x : Box) (s : Region) (left : ℕ) (r : Picked) (t : Bool) → Picks es x r → r ≡ Held s → t ≡ proper arity x → t ≡ true → Within hs x → meeting es x ≤ left
+  pub ready : (x : Box) (s : Region) (left : ℕ) (r : Picked) → Picks es x r → r ≡ Held s → proper arity x ≡ true → Within hs x → meeting es x ≤ left
       → Ready hs es (ranges s) x left
-  ready x s left r t y q e p w m = record { corner-held = held x s r y q .0; is-proper = sym e ∙ p; all-headers = w; few = m }
+  ready x s left r y q p w m = record { corner-held = held x s r y q .0; is-proper = p; all-headers = w; few = m }
 
   module _ (x : Box) (s : Region) (r : Picked) (y : Picks es x r) (q : r ≡ Held s) (b : Box) (left f : ℕ) (d : Ready hs es (ranges s) b left) (n : Next arity 0 b (ranges s) f) where
     falls : (p : Box) → f < arity → p ≡ atField above arity f b (ranges s) → meeting es p < meeting es b
@@ -86,6 +83,10 @@ module _ (hs : Headers) (es : List Entry) where
         o = next-short arity f b (ranges s) n l
 
     -- the part above
+    pub piece-proper : (p : Box) → f < arity → p ≡ atField above arity f b (ranges s) → proper arity p ≡ true
+    piece-proper p l e =
+        subst (λ (p : Box). proper arity p ≡ true) (sym e) (upper-proper arity f b (ranges s) (next-short arity f b (ranges s) n l) (d .is-proper))
+
     pub piece-headers : (p : Box) → f < arity → p ≡ atField above arity f b (ranges s) → Within hs p
     piece-headers p l e =
         subst (Within hs) (sym e) λ h i. d .all-headers h (upper-part f b (ranges s) (next-short arity f b (ranges s) n l) (fields h) i)
@@ -145,6 +146,3 @@ module _ (hs : Headers) (es : List Entry) where
 
 pub falls-by : (left t : ℕ) → left ≡ t → 1 ≤ left → left - 1 < t
 falls-by left t e l = omega arith
-
-pub eq-true : (t u : Bool) → t ≡ u → t ≡ true → u ≡ true
-eq-true t u e p = sym e ∙ p

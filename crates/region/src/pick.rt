@@ -223,7 +223,8 @@ fn judged(s: &[u8], b: Region, c: Choice) -> Choice
     }
 }
 
-// How many records there are up to the last before number i that holds the low corner of b; 0 if none does.
+// How many records there are up to the last before number i that holds the low corner of b; 0 if none does. The five numbers are written
+// out and not left to up_to_corner: with one caller, up_to_last would be compiled into it, and each call would store a region.
 fn up_to_next(s: &[u8], i: usize, b: Region) -> usize
     requires { ⌜ i ≤ length (now s) / recordSize ⌝ }
     ensures { λ r. ⌜ HoldsLast (now (s .entry)) (i - 1) (lows arity (ranges b)) r ⌝ }
@@ -285,6 +286,18 @@ fn numbered(s: &[u8], i: usize) -> Region
     read_selector(s, RECORD_SIZE * i)
 }
 
+// The pick by weight among the records of s that hold the low corner of x.
+fn pick_heaviest(s: &[u8], first: usize, next: usize, x: Region) -> Picked
+    requires { ⌜ (0 < first) × (HoldsLast (now s) (length (now s) / recordSize) (lows arity (ranges x)) first × HoldsLast (now s) (first - 1) (lows arity (ranges x)) next) ⌝ }
+    ensures { λ r. ⌜ Picks (recordsIn (now (s .entry))) (ranges x) r ⌝ }
+{
+    let c = choose(s, first, next, x, enough_weight(x));
+    if c.covers {
+        return Picked::Covered;
+    }
+    Picked::Held(numbered(s, c.number))
+}
+
 // The pick where one list alone may have a record that holds the low corner of x. A single one needs no weight.
 fn pick_of_one(s: &[u8], first: usize, x: Region) -> Picked
     requires { ⌜ HoldsLast (now s) (length (now s) / recordSize) (lows arity (ranges x)) first ⌝ }
@@ -297,11 +310,7 @@ fn pick_of_one(s: &[u8], first: usize, x: Region) -> Picked
     if next == 0 {
         return Picked::Held(numbered(s, first - 1));
     }
-    let c = choose(s, first, next, x, enough_weight(x));
-    if c.covers {
-        return Picked::Covered;
-    }
-    Picked::Held(numbered(s, c.number))
+    pick_heaviest(s, first, next, x)
 }
 
 // The pick where both lists have one.
@@ -330,6 +339,7 @@ fn pick_of_both(a: &[u8], i: usize, b: &[u8], j: usize, x: Region) -> Picked
 }
 
 // A record of one of two lists that holds the low corner of x. Most boxes are held by one record: it is looked for before any weight is reckoned.
+// Only the first list is asked that way: with one caller, pick_of_one is compiled into it, and most boxes need no call.
 pub(crate) fn pick_of_two(a: &[u8], b: &[u8], x: Region) -> Picked
     ensures { λ r. ⌜ Picks (recordsIn (now (a .entry)) ++ recordsIn (now (b .entry))) (ranges x) r ⌝ }
 {
@@ -345,7 +355,7 @@ pub(crate) fn pick_of_two(a: &[u8], b: &[u8], x: Region) -> Picked
         return pick_of_one(a, i, x);
     }
     if i == 0 {
-        return pick_of_one(b, j, x);
+        return pick_heaviest(b, j, up_to_corner(b, j - 1, x), x);
     }
     pick_of_both(a, i, b, j, x)
 }

@@ -79,13 +79,23 @@ fn with_records(s: &[u8], x: Region, cut: Region, n: Ranks) -> Ranks {
     ranks
 }
 
+// 1 if s ends before b, and 0 if not.
+fn ends_before(b: Range, s: Range) -> u32
+    ensures { λ n. ⌜ n ≤ 1 ⌝ }
+{
+    if s.high < b.high {
+        return 1;
+    }
+    0
+}
+
 // How many fields of x the record cuts.
 fn cuts(x: Region, cut: Region) -> u32 {
-    crosses(x.local, cut.local)
-        + crosses(x.remote, cut.remote)
-        + crosses(x.local_port, cut.local_port)
-        + crosses(x.remote_port, cut.remote_port)
-        + crosses(x.protocol, cut.protocol)
+    ends_before(x.local, cut.local)
+        + ends_before(x.remote, cut.remote)
+        + ends_before(x.local_port, cut.local_port)
+        + ends_before(x.remote_port, cut.remote_port)
+        + ends_before(x.protocol, cut.protocol)
 }
 
 // For each field, how many records of a and b that meet x go past the end of the record to be cut off. A single cut needs no count.

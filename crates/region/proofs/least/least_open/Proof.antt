@@ -2,9 +2,10 @@
 use Prim.Native.Nat.{_≤_, _-_}
 use native.Mathlib.Omega.{arith}
 use mathlib.Core.List.{_++_}
-use mathlib.Core.Path.{refl}
+use mathlib.Core.Path.{refl, sym, _∙_}
 use lib.ListN.{length}
 use borrow.Author.Needs.{needs}
+use Rattle.policy.proofs.Bool.{not-false}
 use Rattle.policy.specs.Policy.{missed}
 use Rattle.policy.specs.Header.{headers, ranges, everything}
 use Rattle.region.specs.Records.{recordsIn}
@@ -46,7 +47,7 @@ least-in-part-requires : tie.Need-least-in-part-requires Inv-loop μ-loop
 least-in-part-requires c κs =
     let a = c .before .before .before .before .before .before .before .before .args in
     let i = c .before .before .before .before .before .loop .i - 1 in
-    (part-headers headers (ranges (a .x)) everything (ranges (c .before .before .inside-part .result)) (ranges (c .before .before .before .header-box .result)) i (omega arith) (c .before .before .before .header-box .ensures) (c .before .before .inside-part .ensures), search records-few)
+    (sym (c .before .is-proper .ensures) ∙ not-false (c .if1 .left), (part-headers headers (ranges (a .x)) everything (ranges (c .before .before .inside-part .result)) (ranges (c .before .before .before .header-box .result)) i (omega arith) (c .before .before .before .header-box .ensures) (c .before .before .inside-part .ensures), search records-few))
 
 loop-less-2 : tie.Need-loop-less-2 Inv-loop μ-loop
 loop-less-2 c = omega arith

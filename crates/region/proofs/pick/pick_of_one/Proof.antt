@@ -30,24 +30,11 @@ returns-2 c =
     let a = g .args in
     number-held (a .s .now) (ranges (a .x)) _ _ (omega (arith, c .before .before .before .if1 .left, g .pre .0)) (g .pre .1 .0 (omega (arith, c .before .before .before .if1 .left))) (c .numbered .ensures)
 
-enough-weight-requires : tie.Need-enough-weight-requires
-enough-weight-requires c κs = search needs
-
-choose-requires : tie.Need-choose-requires
-choose-requires c κs = search needs
+pick-heaviest-requires : tie.Need-pick-heaviest-requires
+pick-heaviest-requires c κs = search needs
 
 returns-3 : tie.Need-returns-3
-returns-3 c = c .before .choose .ensures .1 .1 (c .if3 .taken)
-
-numbered-requires-2 : tie.Need-numbered-requires-2
-numbered-requires-2 c κs = search needs
-
-returns-4 : tie.Need-returns-4
-returns-4 c =
-    let g = c .before .before .before .before .before .before .before .before in
-    let a = g .args in
-    let d = c .before .before .choose .ensures in
-    number-held (a .s .now) (ranges (a .x)) _ _ (d .0) (d .1 .0) (c .numbered2 .ensures)
+returns-3 c = search needs
 
 pub pick-of-one-spec : {M : Type 1} → statement M
 pick-of-one-spec =
@@ -59,8 +46,5 @@ pick-of-one-spec =
     sub-numbered
     numbered-requires
     returns-2
-    enough-weight-requires
-    choose-requires
-    returns-3
-    numbered-requires-2
-    returns-4)
+    pick-heaviest-requires
+    returns-3)

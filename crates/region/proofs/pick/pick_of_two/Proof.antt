@@ -37,13 +37,19 @@ returns-3 c =
     let a = c .before .before .before .before .before .before .before .before .before .before .args in
     picks-first (recordsIn (a .a .now)) (recordsIn (a .b .now)) (ranges (a .x)) (c .pick-of-one .result) (c .pick-of-one .ensures) (none-holds (a .b .now) (ranges (a .x)) _ (c .before .if3 .taken) (c .before .before .before .before .up-to-corner-in2 .ensures))
 
-pick-of-one-requires-2 : tie.Need-pick-of-one-requires-2
-pick-of-one-requires-2 c κs = search needs
+sub-up-to-corner : tie.Need-sub-up-to-corner
+sub-up-to-corner c = search needs
+
+up-to-corner-requires : tie.Need-up-to-corner-requires
+up-to-corner-requires c κs = search needs
+
+pick-heaviest-requires : tie.Need-pick-heaviest-requires
+pick-heaviest-requires c κs = search needs
 
 returns-4 : tie.Need-returns-4
 returns-4 c =
-    let a = c .before .before .before .before .before .before .before .before .before .before .before .args in
-    picks-second (recordsIn (a .a .now)) (recordsIn (a .b .now)) (ranges (a .x)) (c .pick-of-one2 .result) (c .pick-of-one2 .ensures) (none-holds (a .a .now) (ranges (a .x)) _ (c .before .if4 .taken) (c .before .before .before .before .before .before .before .before .up-to-corner-in .ensures))
+    let a = c .before .before .before .before .before .before .before .before .before .before .before .before .args in
+    picks-second (recordsIn (a .a .now)) (recordsIn (a .b .now)) (ranges (a .x)) (c .pick-heaviest .result) (c .pick-heaviest .ensures) (none-holds (a .a .now) (ranges (a .x)) _ (c .before .before .if4 .taken) (c .before .before .before .before .before .before .before .before .before .up-to-corner-in .ensures))
 
 pick-of-both-requires : tie.Need-pick-of-both-requires
 pick-of-both-requires c κs = ((omega (arith, c .if4 .left), c .before .before .before .before .before .before .before .up-to-corner-in .ensures), (omega (arith, c .before .if3 .left), c .before .before .before .before .up-to-corner-in2 .ensures))
@@ -63,7 +69,9 @@ pick-of-two-spec =
     returns-2
     pick-of-one-requires
     returns-3
-    pick-of-one-requires-2
+    sub-up-to-corner
+    up-to-corner-requires
+    pick-heaviest-requires
     returns-4
     pick-of-both-requires
     returns-5)
