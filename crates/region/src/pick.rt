@@ -2,6 +2,9 @@
 use policy::region::Range;
 use policy::region::Region;
 use wire::format::RECORD_SIZE;
+use wire::holds::is_up_to1;
+use wire::holds::is_up_to2;
+use wire::holds::is_up_to4;
 use wire::holds::within1;
 use wire::holds::within2;
 use wire::holds::within4;
@@ -13,12 +16,11 @@ ghost use mathlib.Core.Path.{_≡_};
 ghost use mathlib.Core.Bool.{true, false};
 ghost use mathlib.Core.List.{_++_};
 ghost use Prim.Native.Nat.{_+_, _-_, _*_, _/_, _≤_, _<_};
-ghost use lib.Dec.{leb};
-ghost use lib.ListN.{length, getD};
+ghost use lib.ListN.{length};
 ghost use Rattle.policy.specs.Box.{inside, lows};
 ghost use Rattle.policy.specs.Header.{arity, ranges};
 ghost use Rattle.policy.specs.Entry.{selector};
-ghost use Rattle.wire.specs.Format.{recordSize, number2, number4, entryAt};
+ghost use Rattle.wire.specs.Format.{recordSize, entryAt};
 ghost use Rattle.region.specs.Records.{recordsIn};
 ghost use Rattle.region.specs.Corner.{Picks, HoldsLast, Chooses, Better, reaches, Covers};
 
@@ -167,28 +169,6 @@ fn up_to_corner_in(s: &[u8], b: Region) -> usize
         return 0;
     }
     up_to_corner(s, n, b)
-}
-
-// Whether the number at a place is at least x, as a number of 4, 2 and 1 bytes.
-fn is_up_to4(s: &[u8], at: usize, x: u32) -> bool
-    requires { ⌜ at + 4 ≤ length (now s) ⌝ }
-    ensures { λ t. ⌜ t ≡ leb x (number4 (now (s .entry)) at) ⌝ }
-{
-    x <= read4(s, at)
-}
-
-fn is_up_to2(s: &[u8], at: usize, x: u32) -> bool
-    requires { ⌜ at + 2 ≤ length (now s) ⌝ }
-    ensures { λ t. ⌜ t ≡ leb x (number2 (now (s .entry)) at) ⌝ }
-{
-    x <= read2(s, at) as u32
-}
-
-fn is_up_to1(s: &[u8], at: usize, x: u32) -> bool
-    requires { ⌜ at + 1 ≤ length (now s) ⌝ }
-    ensures { λ t. ⌜ t ≡ leb x (getD (now (s .entry)) at 0) ⌝ }
-{
-    x <= read1(s, at)
 }
 
 // Whether the record at a place ends nowhere before b does.

@@ -2,8 +2,8 @@
 use mathlib.Core.Path.{ap}
 use lib.Dec.{leb}
 use borrow.Author.Needs.{needs}
-use Rattle.region.proofs.pick.is_up_to4.Statement.{statement}
-use Rattle.region.proofs.pick.is_up_to4.Tie as tie
+use Rattle.wire.proofs.holds.is_up_to4.Statement.{statement}
+use Rattle.wire.proofs.holds.is_up_to4.Tie as tie
 
 read4-requires : tie.Need-read4-requires
 read4-requires c κs = search needs

@@ -2,8 +2,8 @@
 use mathlib.Core.Path.{ap}
 use lib.Dec.{leb}
 use borrow.Author.Needs.{needs}
-use Rattle.region.proofs.pick.is_up_to1.Statement.{statement}
-use Rattle.region.proofs.pick.is_up_to1.Tie as tie
+use Rattle.wire.proofs.holds.is_up_to1.Statement.{statement}
+use Rattle.wire.proofs.holds.is_up_to1.Tie as tie
 
 read1-requires : tie.Need-read1-requires
 read1-requires c κs = search needs

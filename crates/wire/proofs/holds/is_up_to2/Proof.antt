@@ -2,8 +2,8 @@
 use mathlib.Core.Path.{ap}
 use lib.Dec.{leb}
 use borrow.Author.Needs.{needs}
-use Rattle.region.proofs.pick.is_up_to2.Statement.{statement}
-use Rattle.region.proofs.pick.is_up_to2.Tie as tie
+use Rattle.wire.proofs.holds.is_up_to2.Statement.{statement}
+use Rattle.wire.proofs.holds.is_up_to2.Tie as tie
 
 read2-requires : tie.Need-read2-requires
 read2-requires c κs = search needs
