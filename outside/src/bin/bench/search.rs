@@ -131,6 +131,9 @@ pub fn searches(page: &mut Page, product: &Product) {
             page.hold(&BOXES, &name, boxes[3] as f64);
             page.hold(&TIME, &name, times.ours() * 1e3);
             page.hold(&RATIO, &name, times.ours() / times.packed);
+            if shape == Shape::Realistic && closing != Closing::Parts {
+                page.hold(&REALISTIC, &name, times.ours() * 1e3);
+            }
             if boxes[3] < 100 {
                 others += 1;
                 most = most.max(boxes[3]);
