@@ -3,7 +3,7 @@
 use Prim.Native.Nat.{ℕ, suc, _<_, _≤_, _-_, _+_, _*_, _/_, min}
 use native.Mathlib.Omega.{arith}
 use mathlib.Core.Path.{_≡_, refl, sym, _∙_, ap, ap₂}
-use mathlib.Core.Bool.{Bool, true, false, not, cond}
+use mathlib.Core.Bool.{Bool, true, false, not, cond, _&&_}
 use mathlib.Core.List.{List, [], _∷_, _++_, append-nil, append-assoc}
 use lib.ListN.{length, take, length-take}
 use lib.Dec.{eqb}
@@ -12,7 +12,7 @@ use Rattle.policy.specs.declared.header.Found.{Found}
 use Rattle.policy.specs.declared.header.Found.the-variants.{At, Nothing}
 use Rattle.policy.specs.declared.entry.Entry.{Entry}
 use Rattle.policy.specs.Row.{Row}
-use Rattle.policy.specs.Box.{meet}
+use Rattle.policy.specs.Box.{meet, proper}
 use Rattle.policy.specs.Header.{arity, fields, header, before, Box, Headers}
 use Rattle.policy.specs.Found.{lesser}
 use Rattle.policy.specs.Least.{leastIn}
@@ -20,8 +20,9 @@ use Rattle.policy.specs.Actions.{subset}
 use Rattle.policy.specs.Entry.{selector}
 use Rattle.policy.specs.Policy.{missed}
 use Rattle.policy.specs.Refusals.{numbers, accepted}
-use Rattle.policy.proofs.Bool.{clash, not-true}
+use Rattle.policy.proofs.Bool.{clash, not-true, and-left}
 use Rattle.policy.proofs.Order.{Order, earlier, equal, later, order}
+use Rattle.policy.proofs.Branch.{crossed-none}
 use Rattle.wire.specs.Format.{recordSize, entryAt, entriesFrom}
 use Rattle.wire.proofs.Entries.{entries-split, entries-take}
 use Rattle.region.specs.declared.treated.Sets.{Sets}
@@ -170,17 +171,28 @@ module _ (hs : Headers) (x : Box) (q : Sets) (d : Bool) (front : List Entry) (s 
           judged-passed hs x q d (mask i) (entryAt s (recordSize * i)) (from s (i + 1)) found w
           ∙ ap (λ (t : Bool). lesser (leftIn hs x q d (mask i ++ entryAt s (recordSize * i) ∷ []) (from s (i + 1))) (lesser (cond t (leastIn hs (meet arity x (selector (entryAt s (recordSize * i)))) (missed (mask i))) Nothing) found)) (sym w)
 
-  -- its set is wanted, and it was searched; or its set is not
-  module _ (i at : ℕ) (found : Found) (a : ℕ) (t : Bool) (l : i < length s / recordSize) (e : at ≡ recordSize * i) (u : a ≡ entryAt s at .actions) (w : t ≡ wanted q a) where
+  -- its set is wanted, it has a part of x, and it was searched; or not
+  module _ (i at : ℕ) (found : Found) (t : Bool) (l : i < length s / recordSize) (e : at ≡ recordSize * i)
+      (w : t ≡ (wanted q (entryAt s at .actions) && proper arity (meet arity x (selector (entryAt s at))))) where
+    abbrev wants : Bool
+    wants = wanted q (entryAt s at .actions)
+
+    abbrev inner : Box
+    inner = meet arity x (selector (entryAt s at))
+
     abbrev part : Found
     part = leastIn hs (meet arity x (selector (entryAt s at))) (missed (front ++ recordsIn (take at s)))
 
     pub left-searched : (new : Found) → t ≡ true → new ≡ lesser (leastIn hs (meet arity x (selector (entryAt s at))) (missed (front ++ recordsIn (take at s)))) found
         → lesser (Left hs x q d front s i) found ≡ lesser (Left hs x q d front s (i + 1)) new
-    left-searched new y n = left-again i at found new l e (n ∙ ap (λ (t : Bool). lesser (cond t part Nothing) found) (sym y ∙ w ∙ ap (wanted q) u))
+    left-searched new y n = left-again i at found new l e (n ∙ ap (λ (t : Bool). lesser (cond t part Nothing) found) (sym (and-left wants (proper arity inner) (sym w ∙ y))))
 
     pub left-passed : t ≡ false → lesser (Left hs x q d front s i) found ≡ lesser (Left hs x q d front s (i + 1)) found
-    left-passed n = left-again i at found found l e (ap (λ (t : Bool). lesser (cond t part Nothing) found) (sym n ∙ w ∙ ap (wanted q) u))
+    left-passed n = left-again i at found found l e (go wants (sym w ∙ n))
+      where
+        go : (v : Bool) → (v && proper arity inner) ≡ false → found ≡ lesser (cond v part Nothing) found
+        go false p = refl
+        go true p = ap (λ (r : Found). lesser r found) (sym (crossed-none hs (missed (front ++ recordsIn (take at s))) inner p))
 
   -- nothing is left
   pub left-exhausted : (i at : ℕ) (found : Found) → i < length s / recordSize → at ≡ recordSize * i

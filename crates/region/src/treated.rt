@@ -5,6 +5,7 @@ use policy::actions::is_subset;
 use policy::header::Found;
 use policy::region::Region;
 use policy::region::inside_part;
+use policy::region::is_proper;
 use std::num::wrapping_add_u32;
 use wire::format::RECORD_SIZE;
 use wire::record::read_actions;
@@ -14,7 +15,7 @@ ghost use mathlib.Core.Bool.{true, _&&_};
 ghost use Prim.Native.Nat.{_+_, _≤_};
 ghost use lib.ListN.{length, take};
 ghost use mathlib.Core.List.{_++_};
-ghost use Rattle.policy.specs.Box.{meet};
+ghost use Rattle.policy.specs.Box.{meet, proper};
 ghost use Rattle.policy.specs.Header.{arity, ranges, headers};
 ghost use Rattle.policy.specs.Entry.{selector};
 ghost use Rattle.wire.specs.Format.{recordSize, entryAt};
@@ -67,6 +68,17 @@ fn is_done(a: &[u8], b: &[u8], searches: u32, x: Region, best: Found) -> bool
     false
 }
 
+// Whether the record at a place has a wanted set and matches some of x. Most do not, and need no search.
+fn has_wanted_part(records: &[u8], at: usize, x: Region, q: Sets) -> bool
+    requires { ⌜ at + recordSize ≤ length (now records) ⌝ }
+    ensures { λ t. ⌜ t ≡ (wanted q (entryAt (now (records .entry)) at .actions) && proper arity (meet arity (ranges x) (selector (entryAt (now (records .entry)) at)))) ⌝ }
+{
+    if !is_wanted(q, read_actions(records, at)) {
+        return false;
+    }
+    is_proper(inside_part(x, read_selector(records, at)))
+}
+
 // The lesser of best and the least header of x that is missed by front and by the records before the one at a place, and that this one matches.
 fn with_entry(front: &[u8], records: &[u8], at: usize, x: Region, best: Found) -> Found
     requires { ⌜ at + recordSize ≤ length (now records) ⌝ }
@@ -98,7 +110,7 @@ pub fn least_treated(
     let mut i: usize = 0;
     while i < n {
         let at = RECORD_SIZE * i;
-        if !is_wanted(q, read_actions(records, at)) {
+        if !has_wanted_part(records, at, x, q) {
             i += 1;
             continue;
         }

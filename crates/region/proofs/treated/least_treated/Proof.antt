@@ -31,11 +31,8 @@ loop-holds c =
 mul-at : tie.Need-mul-at Inv-loop μ-loop
 mul-at c = omega arith
 
-read-actions-requires : tie.Need-read-actions-requires Inv-loop μ-loop
-read-actions-requires c κs = omega arith
-
-is-wanted-requires : tie.Need-is-wanted-requires Inv-loop μ-loop
-is-wanted-requires c κs = search needs
+has-wanted-part-requires : tie.Need-has-wanted-part-requires Inv-loop μ-loop
+has-wanted-part-requires c κs = omega arith
 
 add-i : tie.Need-add-i Inv-loop μ-loop
 add-i c = omega arith
@@ -45,11 +42,11 @@ loop-less c = omega arith
 
 loop-again : tie.Need-loop-again Inv-loop μ-loop
 loop-again c =
-    let a = c .before .before .before .before .before .before .before .args in
-    let l = c .before .before .before .before .loop in (
+    let a = c .before .before .before .before .before .before .args in
+    let l = c .before .before .before .loop in (
       omega arith,
       l .inv .1
-          ∙ left-passed headers (ranges (a .x)) (a .q) (a .uncaught) (recordsIn (a .front .now)) (a .records .now) (l .i) (recordSize * l .i) (l .found) _ _ (c .before .before .before .loop-test .taken) refl (c .before .before .read-actions .ensures) (c .before .is-wanted .ensures) (not-true (c .if1 .taken)),
+          ∙ left-passed headers (ranges (a .x)) (a .q) (a .uncaught) (recordsIn (a .front .now)) (a .records .now) (l .i) (recordSize * l .i) (l .found) _ (c .before .before .loop-test .taken) refl (c .before .has-wanted-part .ensures) (not-true (c .if1 .taken)),
     )
 
 sub-is-done : tie.Need-sub-is-done Inv-loop μ-loop
@@ -66,9 +63,9 @@ is-done-requires c κs = search needs
 
 returns : tie.Need-returns Inv-loop μ-loop
 returns c =
-    let a = c .before .before .before .before .before .before .before .before .before .before .args in
-    let l = c .before .before .before .before .before .before .before .loop in
-    left-exhausted headers (ranges (a .x)) (a .q) (a .uncaught) (recordsIn (a .front .now)) (a .records .now) (l .i) (recordSize * l .i - 0) (l .found) (c .before .before .before .before .before .before .loop-test .taken) (omega arith) (c .before .is-done .ensures (c .if2 .taken)) ∙ sym (l .inv .1)
+    let a = c .before .before .before .before .before .before .before .before .before .args in
+    let l = c .before .before .before .before .before .before .loop in
+    left-exhausted headers (ranges (a .x)) (a .q) (a .uncaught) (recordsIn (a .front .now)) (a .records .now) (l .i) (recordSize * l .i - 0) (l .found) (c .before .before .before .before .before .loop-test .taken) (omega arith) (c .before .is-done .ensures (c .if2 .taken)) ∙ sym (l .inv .1)
 
 with-entry-requires : tie.Need-with-entry-requires Inv-loop μ-loop
 with-entry-requires c κs = omega arith
@@ -84,11 +81,11 @@ loop-less-2 c = omega arith
 
 loop-again-2 : tie.Need-loop-again-2 Inv-loop μ-loop
 loop-again-2 c =
-    let a = c .before .before .before .before .before .before .before .before .before .before .before .before .args in
-    let l = c .before .before .before .before .before .before .before .before .before .loop in (
+    let a = c .before .before .before .before .before .before .before .before .before .before .before .args in
+    let l = c .before .before .before .before .before .before .before .before .loop in (
       omega arith,
       l .inv .1
-          ∙ left-searched headers (ranges (a .x)) (a .q) (a .uncaught) (recordsIn (a .front .now)) (a .records .now) (l .i) (recordSize * l .i) (l .found) _ _ (c .before .before .before .before .before .before .before .before .loop-test .taken) refl (c .before .before .before .before .before .before .before .read-actions .ensures) (c .before .before .before .before .before .before .is-wanted .ensures) _ (not-false (c .before .before .before .before .before .if1 .left)) (c .before .with-entry .ensures),
+          ∙ left-searched headers (ranges (a .x)) (a .q) (a .uncaught) (recordsIn (a .front .now)) (a .records .now) (l .i) (recordSize * l .i) (l .found) _ (c .before .before .before .before .before .before .before .loop-test .taken) refl (c .before .before .before .before .before .before .has-wanted-part .ensures) _ (not-false (c .before .before .before .before .before .if1 .left)) (c .before .with-entry .ensures),
     )
 
 least-open-requires : tie.Need-least-open-requires Inv-loop μ-loop
@@ -114,8 +111,7 @@ least-treated-spec =
     μ-loop
     loop-holds
     mul-at
-    read-actions-requires
-    is-wanted-requires
+    has-wanted-part-requires
     add-i
     loop-less
     loop-again
