@@ -1,4 +1,5 @@
 // The end of a merging: rules 3 and 4, and the file.
+use crate::packed::PACKED_SIZE;
 use crate::stage::Stage;
 use crate::strike::least_conflict;
 use crate::strike::strike_records;
@@ -60,8 +61,7 @@ fn end_list(packed: &mut [u8], n: usize, buffer: &mut [u8]) -> Merged
 }
 
 // Ends a merging: writes the merged list as a file to the start of a buffer, or says why not.
-pub fn end_merging(packed: &mut [u8], s: Stage, buffer: &mut [u8]) -> Merged
-    requires { ⌜ length (now packed) ≡ recordSize * listLimit ⌝ }
+pub fn end_merging(packed: &mut [u8; PACKED_SIZE], s: Stage, buffer: &mut [u8]) -> Merged
     ensures { λ r. ⌜ merging r (now (buffer .exit)) ≡ mergingOf (ended headers (stageIn s (now (packed .entry)))) (now (buffer .entry)) ⌝ }
 {
     match s {

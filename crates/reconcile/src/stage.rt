@@ -1,4 +1,5 @@
 // The working list after the parties so far. It is handed on as packed records, and unpacked to be crossed.
+use crate::packed::PACKED_SIZE;
 use crate::packed::offer_list;
 use crate::packed::offer_row;
 use wire::format::LIST_LIMIT;
@@ -58,8 +59,7 @@ fn cross_packed(packed: &mut [u8], n: usize, records: &[u8]) -> usize
 }
 
 // Rules 1 and 2 for the records of one party's list more.
-pub fn add_list(packed: &mut [u8], s: Stage, records: &[u8]) -> Stage
-    requires { ⌜ length (now packed) ≡ recordSize * listLimit ⌝ }
+pub fn add_list(packed: &mut [u8; PACKED_SIZE], s: Stage, records: &[u8]) -> Stage
     ensures { λ r. ⌜ stageIn r (now (packed .exit)) ≡ added headers (stageIn s (now (packed .entry))) (recordsIn (now (records .entry))) ⌝ }
 {
     match s {

@@ -1,4 +1,5 @@
 // Lists of unpacked entries.
+use crate::format::LIST_LIMIT;
 use policy::entry::Entry;
 ghost use mathlib.Core.Path.{_≡_};
 ghost use mathlib.Core.List.{[]};
@@ -6,7 +7,7 @@ ghost use Rattle.wire.specs.Lists.{listed};
 
 // Up to 256 entries, in the first places.
 pub struct Entries {
-    pub entries: [Entry; 256],
+    pub entries: [Entry; LIST_LIMIT],
     pub count: usize,
 }
 
@@ -30,7 +31,7 @@ pub fn no_entries() -> Entries
     ensures { λ r. ⌜ r ≡ listed [] ⌝ }
 {
     Entries {
-        entries: [EMPTY; 256],
+        entries: [EMPTY; LIST_LIMIT],
         count: 0,
     }
 }

@@ -25,7 +25,7 @@ pub fn read_entries(s: &[u8], at: usize, n: usize) -> Entries
     requires { ⌜ (n ≤ listLimit) × (at + recordSize * n ≤ length (now s)) ⌝ }
     ensures { λ r. ⌜ r ≡ listed (entriesFrom (now (s .entry)) at n) ⌝ }
 {
-    let mut entries = [EMPTY; 256];
+    let mut entries = [EMPTY; LIST_LIMIT];
     let mut i: usize = 0;
     while i < n {
         entries[i] = read_entry(s, at + RECORD_SIZE * i);

@@ -9,11 +9,8 @@ use Rattle.bench.proofs.slots.add_records.Tie as tie
 add-list-requires : tie.Need-add-list-requires
 add-list-requires c κs = search needs
 
-same-length : tie.Need-same-length
-same-length c = search needs
-
 returns : tie.Need-returns
-returns c = (c .before .before .add-list .ensures, records-fit (c .before .before .before .before .before .before .args .records .now) λ i. omega (arith, c .before .before .before .before .shared-slice-known .given i))
+returns c = (c .add-list .ensures, records-fit (c .before .before .before .args .records .now) λ i. omega (arith, c .before .before .shared-slice-known .given i))
 
 pub add-records-spec : {M : Type 1} → statement M
-add-records-spec = tie.close (tie.spec add-list-requires same-length returns)
+add-records-spec = tie.close (tie.spec add-list-requires returns)

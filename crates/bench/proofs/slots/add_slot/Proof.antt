@@ -13,7 +13,7 @@ use Rattle.bench.proofs.slots.add_slot.Tie as tie
 
 returns : tie.Need-returns
 returns c =
-    let g = c .before .before in
+    let g = c .before in
     vacant-adds (stageIn (g .args .s) (g .args .packed .now)) (g .args .slot) (c .if1 .taken)
 
 sub-add-records : tie.Need-sub-add-records
@@ -28,14 +28,10 @@ part-add-records-end c = search needs
 add-records-requires : tie.Need-add-records-requires
 add-records-requires c κs = search needs
 
-same-length : tie.Need-same-length
-same-length c = search needs
-
 returns-2 : tie.Need-returns-2
 returns-2 c =
-    let g = c .before .before .before .before .before .before .before .before .before .before in
-    let a = c .before .before .add-records in
-    short-adds (stageIn (g .args .s) (g .args .packed .now)) (stageIn (a .result) (a .last .0)) (g .args .slot) (c .before .before .before .before .before .before .before .before .if1 .left) (c .before .before .before .before .before .before .if2 .taken) (a .ensures)
+    let g = c .before .before .before .before .before .before .before in
+    short-adds (stageIn (g .args .s) (g .args .packed .now)) (stageIn (c .add-records .result) (c .add-records .last .0)) (g .args .slot) (c .before .before .before .before .before .before .if1 .left) (c .before .before .before .before .if2 .taken) (c .add-records .ensures)
 
 sub-add-records-2 : tie.Need-sub-add-records-2
 sub-add-records-2 c = search needs
@@ -45,42 +41,34 @@ part-add-records-start-2 c = search needs
 
 part-add-records-end-2 : tie.Need-part-add-records-end-2
 part-add-records-end-2 c =
-    let g = c .before .before .before .before .before .before .before in
+    let g = c .before .before .before .before .before .before in
     let h : length (g .args .slot .bytes) ≡ 901 = length-unmapped ℕ (g .args .slot .bytes) 901 (g .good .1 .1 .0 .1 .1 .0 .1 .0 .1) in
     omega arith
 
 add-records-requires-2 : tie.Need-add-records-requires-2
 add-records-requires-2 c κs = search needs
 
-same-length-2 : tie.Need-same-length-2
-same-length-2 c = search needs
-
 returns-3 : tie.Need-returns-3
 returns-3 c =
-    let g = c .before .before .before .before .before .before .before .before .before .before .before in
-    let a = c .before .before .add-records2 in
-    long-adds (stageIn (g .args .s) (g .args .packed .now)) (stageIn (a .result) (a .last .0)) (g .args .slot) (c .before .before .before .before .before .before .before .before .before .if1 .left) (c .before .before .before .before .before .before .if3 .taken) (length-unmapped ℕ (g .args .slot .bytes) 901 (g .good .1 .1 .0 .1 .1 .0 .1 .0 .1)) (a .ensures)
+    let g = c .before .before .before .before .before .before .before .before in
+    long-adds (stageIn (g .args .s) (g .args .packed .now)) (stageIn (c .add-records2 .result) (c .add-records2 .last .0)) (g .args .slot) (c .before .before .before .before .before .before .before .if1 .left) (c .before .before .before .before .if3 .taken) (length-unmapped ℕ (g .args .slot .bytes) 901 (g .good .1 .1 .0 .1 .1 .0 .1 .0 .1)) (c .add-records2 .ensures)
 
 part-add-records-start-3 : tie.Need-part-add-records-start-3
 part-add-records-start-3 c = search needs
 
 part-add-records-end-3 : tie.Need-part-add-records-end-3
 part-add-records-end-3 c =
-    let g = c .before .before .before .before .before .before .before in
+    let g = c .before .before .before .before .before .before in
     let h : length (g .args .slot .bytes) ≡ 901 = length-unmapped ℕ (g .args .slot .bytes) 901 (g .good .1 .1 .0 .1 .1 .0 .1 .0 .1) in
     omega arith
 
 add-records-requires-3 : tie.Need-add-records-requires-3
 add-records-requires-3 c κs = search needs
 
-same-length-3 : tie.Need-same-length-3
-same-length-3 c = search needs
-
 returns-4 : tie.Need-returns-4
 returns-4 c =
-    let g = c .before .before .before .before .before .before .before .before .before .before .before in
-    let a = c .before .before .add-records3 in
-    whole-adds (stageIn (g .args .s) (g .args .packed .now)) (stageIn (a .result) (a .last .0)) (g .args .slot) (c .before .before .before .before .before .before .before .before .before .if1 .left) (a .ensures)
+    let g = c .before .before .before .before .before .before .before .before in
+    whole-adds (stageIn (g .args .s) (g .args .packed .now)) (stageIn (c .add-records3 .result) (c .add-records3 .last .0)) (g .args .slot) (c .before .before .before .before .before .before .before .if1 .left) (c .add-records3 .ensures)
 
 pub add-slot-spec : {M : Type 1} → statement M
 add-slot-spec =
@@ -91,16 +79,13 @@ add-slot-spec =
     part-add-records-start
     part-add-records-end
     add-records-requires
-    same-length
     returns-2
     sub-add-records-2
     part-add-records-start-2
     part-add-records-end-2
     add-records-requires-2
-    same-length-2
     returns-3
     part-add-records-start-3
     part-add-records-end-3
     add-records-requires-3
-    same-length-3
     returns-4)

@@ -19,13 +19,9 @@ returns c = search ends-bare
 same-length : tie.Need-same-length
 same-length c = search needs
 
-same-length-2 : tie.Need-same-length-2
-same-length-2 c = search needs
-
 returns-2 : tie.Need-returns-2
 returns-2 c = search ends-kept
 
 pub end-merging-spec : {M : Type 1} → statement M
 end-merging-spec =
-    tie.close
-    (tie.spec enum-told enum-known-s end-list-requires returns same-length same-length-2 returns-2)
+    tie.close (tie.spec enum-told enum-known-s end-list-requires returns same-length returns-2)

@@ -16,27 +16,12 @@ enum-known-s c = search needs
 cross-packed-requires : tie.Need-cross-packed-requires
 cross-packed-requires c κs = search needs
 
-same-length : tie.Need-same-length
-same-length c = search needs
-
 returns : tie.Need-returns
 returns c = search added-first
-
-same-length-2 : tie.Need-same-length-2
-same-length-2 c = search needs
 
 returns-2 : tie.Need-returns-2
 returns-2 c = search added-next
 
 pub add-list-spec : {M : Type 1} → statement M
 add-list-spec =
-    tie.close
-    (tie.spec
-    enum-told
-    offer-list-requires
-    enum-known-s
-    cross-packed-requires
-    same-length
-    returns
-    same-length-2
-    returns-2)
+    tie.close (tie.spec enum-told offer-list-requires enum-known-s cross-packed-requires returns returns-2)

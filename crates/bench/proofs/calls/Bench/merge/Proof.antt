@@ -1,34 +1,29 @@
 -- The stage holds the lists of the slots so far (`Staged`); at the end it is merged by the rules, of which demand 3 holds.
 -- Assumes nothing.
-use lib.ListN.{length, length-map}
+use lib.ListN.{length-map}
 use borrow.Author.Needs.{needs}
-use Prim.Native.Nat.{_≤_, _-_, _*_}
-use mathlib.Core.Path.{_≡_}
+use Prim.Native.Nat.{_≤_, _-_}
 use native.Mathlib.Omega.{arith}
-use Rattle.wire.specs.Format.{recordSize, listLimit}
 use Rattle.reconcile.specs.Stage.{stageIn}
 use Rattle.bench.proofs.Calling.{Staged, staged-none, staged-next, merge-done, merge-refused}
 use Rattle.bench.proofs.calls.Bench.merge.Statement.{statement}
 use Rattle.bench.proofs.calls.Bench.merge.Tie as tie
 
 abbrev Inv-loop : tie.InvT-loop
-Inv-loop out self packed₀ stage₀ i₀ packed stage i = (i ≤ 8) × (length packed ≡ recordSize * listLimit) × Staged self i (stageIn stage packed)
+Inv-loop out self packed₀ stage₀ i₀ packed stage i = (i ≤ 8) × Staged self i (stageIn stage packed)
 
 abbrev μ-loop : tie.MeasureT-loop
 μ-loop out self packed₀ stage₀ i₀ packed stage i = 8 - i
 
 loop-holds : tie.Need-loop-holds Inv-loop μ-loop
 loop-holds c =
-    (omega arith, search needs, staged-none (c .before .args .t1))
+    (omega arith, staged-none (c .before .args .t1))
 
 mul-slot : tie.Need-mul-slot Inv-loop μ-loop
 mul-slot c = search needs
 
 element-copy-out-slot : tie.Need-element-copy-out-slot Inv-loop μ-loop
 element-copy-out-slot c = search needs
-
-slice-aggregate-add-slot : tie.Need-slice-aggregate-add-slot Inv-loop μ-loop
-slice-aggregate-add-slot c = search needs
 
 add-slot-requires : tie.Need-add-slot-requires Inv-loop μ-loop
 add-slot-requires c κs = search needs
@@ -41,13 +36,10 @@ loop-less c = omega arith
 
 loop-again : tie.Need-loop-again Inv-loop μ-loop
 loop-again c =
-    let g = c .before .before .before .before .before .before .before in
-    let l = c .before .before .before .before .before .loop in
-    let a = c .before .add-slot in
-    (omega arith, search needs, staged-next (g .args .t1) (l .i) (stageIn (l .stage) (l .packed)) (stageIn (a .result) (a .last .0)) (simp length-map at (g .good .0 .1 .1 .0 .1 .0 .1)) (c .before .before .before .before .loop-test .taken) (l .inv .2) (a .ensures))
-
-slice-aggregate-end-merging : tie.Need-slice-aggregate-end-merging Inv-loop μ-loop
-slice-aggregate-end-merging c = search needs
+    let g = c .before .before .before .before .before .before in
+    let l = c .before .before .before .before .loop in
+    let a = c .add-slot in
+    (omega arith, staged-next (g .args .t1) (l .i) (stageIn (l .stage) (l .packed)) (stageIn (a .result) (a .last .0)) (simp length-map at (g .good .0 .1 .1 .0 .1 .0 .1)) (c .before .before .before .loop-test .taken) (l .inv .1) (a .ensures))
 
 end-merging-requires : tie.Need-end-merging-requires Inv-loop μ-loop
 end-merging-requires c κs = search needs
@@ -63,20 +55,20 @@ same-length c = search needs
 
 returns : tie.Need-returns Inv-loop μ-loop
 returns c =
-    let g = c .before .before .before .before .before .before .before .before .before .before .before .before in
-    let l = c .before .before .before .before .before .before .before .before .before .before .loop in
-    let m = c .before .before .before .before .before .before .end-merging in
-    search (merge-done (g .args .t1) (g .args .out .now) (m .last .1 .1 .0) (l .i) (stageIn (l .stage) (l .packed)) (simp length-map at (g .good .0 .1 .1 .0 .1 .0 .1)) (c .before .before .before .before .before .before .before .before .before .loop-test .left) (l .inv .0) (l .inv .2) (m .result) (m .ensures))
+    let g = c .before .before .before .before .before .before .before .before .before .before .before in
+    let l = c .before .before .before .before .before .before .before .before .before .loop in
+    let m = c .before .before .before .before .before .end-merging in
+    search (merge-done (g .args .t1) (g .args .out .now) (m .last .1 .1 .0) (l .i) (stageIn (l .stage) (l .packed)) (simp length-map at (g .good .0 .1 .1 .0 .1 .0 .1)) (c .before .before .before .before .before .before .before .before .loop-test .left) (l .inv .0) (l .inv .1) (m .result) (m .ensures))
 
 same-length-2 : tie.Need-same-length-2 Inv-loop μ-loop
 same-length-2 c = search needs
 
 returns-2 : tie.Need-returns-2 Inv-loop μ-loop
 returns-2 c =
-    let g = c .before .before .before .before .before .before .before .before .before .before .before .before in
-    let l = c .before .before .before .before .before .before .before .before .before .before .loop in
-    let m = c .before .before .before .before .before .before .end-merging in
-    search (merge-refused (g .args .t1) (g .args .out .now) (m .last .1 .1 .0) (l .i) (stageIn (l .stage) (l .packed)) (simp length-map at (g .good .0 .1 .1 .0 .1 .0 .1)) (c .before .before .before .before .before .before .before .before .before .loop-test .left) (l .inv .0) (l .inv .2) (m .result) (m .ensures))
+    let g = c .before .before .before .before .before .before .before .before .before .before .before in
+    let l = c .before .before .before .before .before .before .before .before .before .loop in
+    let m = c .before .before .before .before .before .end-merging in
+    search (merge-refused (g .args .t1) (g .args .out .now) (m .last .1 .1 .0) (l .i) (stageIn (l .stage) (l .packed)) (simp length-map at (g .good .0 .1 .1 .0 .1 .0 .1)) (c .before .before .before .before .before .before .before .before .loop-test .left) (l .inv .0) (l .inv .1) (m .result) (m .ensures))
 
 pub merge-spec : {M : Type 1} → statement M
 merge-spec =
@@ -87,12 +79,10 @@ merge-spec =
     loop-holds
     mul-slot
     element-copy-out-slot
-    slice-aggregate-add-slot
     add-slot-requires
     add-i
     loop-less
     loop-again
-    slice-aggregate-end-merging
     end-merging-requires
     enum-known-merged
     enum-known-merged-2
