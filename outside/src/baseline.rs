@@ -103,7 +103,7 @@ pub fn unpack(list: &[Entry]) -> Vec<Unpacked> {
 }
 
 /// Lookup in a table of unpacked entries. `&` leaves the order of the four comparisons of addresses
-/// to the compiler, which was the fastest form of those tried.
+/// to the compiler.
 #[inline(never)]
 pub fn lookup_unpacked(table: &[Unpacked], h: &Header) -> u32 {
     fn within<T: Copy + Into<u32>>(range: [T; 2], x: u32) -> bool {

@@ -162,7 +162,9 @@ pub fn lookups(page: &mut Page, product: &Product) {
          last. \"Entry\" is the mean number of the entry that catches them. Number and part check \
          the file first, as 01 says, and so does the Rust version over the bytes; the Rust \
          version over structs checks nothing. The table is of structs with the fields' own \
-         widths, and is lent to both.\n",
+         widths, and is lent to both. From 128 entries on, a lookup in a table hangs on how well \
+         its branches are predicted, which changes with where the linker puts the loop: the same \
+         machine code took three times as long in one program as in another.\n",
     );
     let mut rows = vec![];
     for n in SIZES {
