@@ -24,23 +24,31 @@ fn now() -> f64 {
     time.seconds as f64 + time.nanoseconds as f64 * 1e-9
 }
 
+/// Batches of a job, and of one that takes more than 0.05 seconds.
+const BATCHES: usize = 40;
+const LONG_BATCHES: usize = 5;
+
 /// Seconds that one call of each job takes: the least of several batches, the jobs in turn, so that
-/// what disturbs the machine disturbs all of them.
+/// what disturbs the machine disturbs all of them. Long jobs have fewer batches, the first ones, so
+/// that they do not empty the caches before every batch of the others.
 pub fn seconds(jobs: &mut [&mut dyn FnMut() -> u64]) -> Vec<f64> {
     let mut least = vec![f64::MAX; jobs.len()];
     let mut calls = vec![1; jobs.len()];
-    let mut batches = 40;
+    let mut batches = vec![BATCHES; jobs.len()];
     for (k, job) in jobs.iter_mut().enumerate() {
         let start = now();
         black_box(job());
         let once = (now() - start).max(1e-8);
         calls[k] = ((1e-3 / once) as usize).clamp(1, 100_000);
         if once > 0.05 {
-            batches = 5;
+            batches[k] = LONG_BATCHES;
         }
     }
-    for _ in 0..batches {
+    for batch in 0..BATCHES {
         for (k, job) in jobs.iter_mut().enumerate() {
+            if batch >= batches[k] {
+                continue;
+            }
             let start = now();
             for _ in 0..calls[k] {
                 black_box(job());
