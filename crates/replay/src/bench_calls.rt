@@ -1,0 +1,79 @@
+// The calls on the bench. Each starts behind the call's number, and answers the bench and where the call ends.
+use crate::answer::accepted;
+use crate::answer::filed;
+use crate::answer::merged;
+use crate::answer::withdrawn;
+use crate::input::BUFFER_LIMIT;
+use crate::input::NOWHERE;
+use crate::input::behind;
+use crate::input::buffer_end;
+use crate::input::buffer_filling;
+use crate::input::buffer_length;
+use crate::input::bytes;
+use crate::input::bytes_end;
+use crate::input::number1;
+use crate::print::print_bytes;
+use crate::print::print_end;
+use bench::calls::Bench;
+
+pub struct Step {
+    pub bench: Bench,
+    pub end: usize,
+}
+
+pub(crate) fn open(at: usize) -> Step {
+    let bench = Bench::open();
+    accepted();
+    print_end();
+    Step { bench, end: at }
+}
+
+pub(crate) fn file(b: Bench, s: &[u8], at: usize) -> Step {
+    let list = behind(s, at, 1);
+    let end = bytes_end(s, list);
+    if end == NOWHERE {
+        return Step { bench: b, end };
+    }
+    let r = b.file(number1(s, at, 0), bytes(s, list));
+    let answer = r.answer;
+    filed(answer);
+    print_end();
+    let bench = r.bench;
+    Step { bench, end }
+}
+
+pub(crate) fn withdraw(b: Bench, s: &[u8], at: usize) -> Step {
+    let end = behind(s, at, 1);
+    if end == NOWHERE {
+        return Step { bench: b, end };
+    }
+    let r = b.withdraw(number1(s, at, 0));
+    let answer = r.answer;
+    withdrawn(answer);
+    print_end();
+    let bench = r.bench;
+    Step { bench, end }
+}
+
+// Merges into a lent buffer.
+fn merge_into(b: Bench, buffer: &mut [u8]) -> Bench {
+    let r = b.merge(buffer);
+    let answer = r.answer;
+    merged(answer);
+    print_bytes(buffer);
+    print_end();
+    let bench = r.bench;
+    bench
+}
+
+pub(crate) fn merge(b: Bench, s: &[u8], at: usize) -> Step {
+    let end = buffer_end(s, at);
+    if end == NOWHERE {
+        return Step { bench: b, end };
+    }
+    let n = buffer_length(s, at);
+    let filling = buffer_filling(s, at);
+    let mut buffer = [filling; BUFFER_LIMIT];
+    let bench = merge_into(b, &mut buffer[0..n]);
+    Step { bench, end }
+}
