@@ -1,33 +1,13 @@
 //! The daemon's two calls on generated files, valid and damaged, short and long, against the model.
 
-use crate::entry::{file, Header, List};
-use crate::generate::{
-    any_list, damaged, header_near, realistic_list, related_list, shaped_list, Sets,
-};
+use crate::entry::Header;
+use crate::generate::{header_near, related_list, some_file, some_list};
 use crate::model;
 use crate::random::Random;
 use crate::report::{hexadecimal, Cases};
 
 const CANARY: u8 = 0xc5;
 const CANARIES: usize = 64;
-
-/// Mostly short lists, some long ones, a few of the greatest length.
-fn some_list(random: &mut Random) -> List {
-    match random.below(24) {
-        0 => realistic_list(256, Sets::Any, random),
-        1 => realistic_list(random.between(33, 256) as usize, Sets::Any, random),
-        2 => shaped_list(random.between(10, 24) as usize, Sets::Any, random),
-        3..=6 => any_list(24, Sets::Any, random),
-        _ => any_list(10, Sets::Any, random),
-    }
-}
-
-fn some_file(list: &List, random: &mut Random) -> Vec<u8> {
-    match random.below(8) {
-        0 => damaged(list, random),
-        _ => file(list),
-    }
-}
 
 /// Lookups against the model's.
 pub fn lookups(

@@ -406,6 +406,18 @@ pub fn any_list(most: usize, sets: Sets, random: &mut Random) -> List {
     }
 }
 
+/// A list for the calls that take a file: mostly short ones, some long ones, a few of the greatest
+/// length.
+pub fn some_list(random: &mut Random) -> List {
+    match random.below(24) {
+        0 => realistic_list(256, Sets::Any, random),
+        1 => realistic_list(random.between(33, 256) as usize, Sets::Any, random),
+        2 => shaped_list(random.between(10, 24) as usize, Sets::Any, random),
+        3..=6 => any_list(24, Sets::Any, random),
+        _ => any_list(10, Sets::Any, random),
+    }
+}
+
 /// A list that often refines the given one, or is refined by it.
 pub fn related_list(list: &[Entry], random: &mut Random) -> List {
     let mut other = list.to_vec();
@@ -443,6 +455,15 @@ pub fn related_list(list: &[Entry], random: &mut Random) -> List {
 
 // ---------------------------------------------------------------- files and headers
 
+/// Gives an entry a crossed range.
+pub fn cross_one(list: &mut [Entry], random: &mut Random) {
+    let i = random.below(list.len() as u64) as usize;
+    let f = random.below(FIELDS as u64) as usize;
+    let s = &mut list[i].selector;
+    s.low[f] = random.between(1, TOP[f]);
+    s.high[f] = s.low[f] - random.between(1, s.low[f].min(3));
+}
+
 /// A file with a fault, so that each of the refusals of reading is met, now and then without one.
 pub fn damaged(list: &[Entry], random: &mut Random) -> Vec<u8> {
     let mut list = list.to_vec();
@@ -451,11 +472,7 @@ pub fn damaged(list: &[Entry], random: &mut Random) -> Vec<u8> {
         0 | 1 => {
             // A crossed range, or two.
             for _ in 0..random.between(1, 2) {
-                let i = random.below(n as u64) as usize;
-                let f = random.below(FIELDS as u64) as usize;
-                let s = &mut list[i].selector;
-                s.low[f] = random.between(1, TOP[f]);
-                s.high[f] = s.low[f] - random.between(1, s.low[f].min(3));
+                cross_one(&mut list, random);
             }
             file(&list)
         }
@@ -541,6 +558,14 @@ pub fn damaged(list: &[Entry], random: &mut Random) -> Vec<u8> {
     }
 }
 
+/// The file of a list, now and then damaged.
+pub fn some_file(list: &[Entry], random: &mut Random) -> Vec<u8> {
+    match random.below(8) {
+        0 => damaged(list, random),
+        _ => file(list),
+    }
+}
+
 /// A header at or beside the ends of a list's ranges.
 pub fn header_near(list: &[Entry], random: &mut Random) -> Header {
     let mut header = [0; FIELDS];
@@ -591,9 +616,9 @@ pub fn single_ports(f: usize, n: usize) -> List {
     list
 }
 
-/// Filings of two parties whose working list has 256 entries and `more`: 15 single local ports then
-/// ALL, against 15 single remote ports, `more` single local ports of others and ALL.
-pub fn filings_at_limit(more: u32) -> Vec<u8> {
+/// Two lists whose working list has 256 entries and `more`: 15 single local ports then ALL, against
+/// 15 single remote ports, `more` single local ports of others and ALL.
+pub fn lists_at_limit(more: u32) -> [List; 2] {
     let mut second = single_ports(3, 15);
     for i in 0..more {
         let mut entry = second[0];
@@ -601,9 +626,15 @@ pub fn filings_at_limit(more: u32) -> Vec<u8> {
         (entry.selector.low[2], entry.selector.high[2]) = (5000 + i, 5000 + i);
         second.insert(0, entry);
     }
+    [single_ports(2, 15), second]
+}
+
+/// Their filings by two parties.
+pub fn filings_at_limit(more: u32) -> Vec<u8> {
     let mut input = vec![];
-    filing(1, &file(&single_ports(2, 15)), &mut input);
-    filing(2, &file(&second), &mut input);
+    for (party, list) in (1..).zip(lists_at_limit(more)) {
+        filing(party, &file(&list), &mut input);
+    }
     input
 }
 
@@ -645,7 +676,43 @@ pub fn realistic_filings(parties: u8, least: u32, most: u32, random: &mut Random
     input
 }
 
-fn some_party(parties: u32, random: &mut Random) -> u8 {
+/// The lists that some parties file: all of one kind, and the shorter the more parties there are,
+/// since the model walks every cell of a merging.
+pub struct Filings {
+    kind: u64,
+    pub parties: u32,
+    most: u32,
+    sets: Sets,
+}
+
+impl Filings {
+    pub fn some(random: &mut Random) -> Filings {
+        Filings::of_kind(1 + random.below(15), random)
+    }
+
+    fn of_kind(kind: u64, random: &mut Random) -> Filings {
+        let parties = *random.pick(&[1, 2, 2, 3, 3, 4, 5, 6, 8]);
+        let most = match parties {
+            1 => 32,
+            2 => *random.pick(&[4, 8, 15, 32]),
+            3 | 4 => *random.pick(&[4, 8, 12]),
+            _ => *random.pick(&[2, 4, 6]),
+        };
+        Filings { kind, parties, most, sets: some_sets(random) }
+    }
+
+    pub fn list(&self, random: &mut Random) -> List {
+        match self.kind {
+            1..=5 => realistic_list(random.between(1, self.most) as usize, self.sets, random),
+            6..=9 => small_list(random.between(1, self.most) as usize, self.sets, random),
+            10..=12 => shaped_list(random.between(1, self.most) as usize, self.sets, random),
+            _ => any_list(self.most as usize, self.sets, random),
+        }
+    }
+}
+
+/// One of the parties, now and then a number that is none's.
+pub fn some_party(parties: u32, random: &mut Random) -> u8 {
     if random.one_in(25) {
         *random.pick(&[0, 9, 10, 128, 255])
     } else {
@@ -668,22 +735,10 @@ pub fn program_input(random: &mut Random) -> Vec<u8> {
         filing(2, &file(&single_ports(3, second as usize)), &mut input);
         return input;
     }
-    let parties = *random.pick(&[1, 2, 2, 3, 3, 4, 5, 6, 8]);
-    let most = match parties {
-        1 => 32,
-        2 => *random.pick(&[4, 8, 15, 32]),
-        3 | 4 => *random.pick(&[4, 8, 12]),
-        _ => *random.pick(&[2, 4, 6]),
-    };
-    let sets = some_sets(random);
-    let filings = parties + random.below(4) as u32;
-    for i in 0..filings {
-        let list = match kind {
-            1..=5 => realistic_list(random.between(1, most) as usize, sets, random),
-            6..=9 => small_list(random.between(1, most) as usize, sets, random),
-            10..=12 => shaped_list(random.between(1, most) as usize, sets, random),
-            _ => any_list(most as usize, sets, random),
-        };
+    let filings = Filings::of_kind(kind, random);
+    let parties = filings.parties;
+    for i in 0..parties + random.below(4) as u32 {
+        let list = filings.list(random);
         let party = if i < parties && !random.one_in(20) {
             i as u8 + 1
         } else {
