@@ -10,7 +10,10 @@ pub const TOP: [u32; FIELDS] = [u32::MAX, u32::MAX, 0xffff, 0xffff, 0xff];
 /// Bytes of each field's number in a record.
 pub const WIDTH: [usize; FIELDS] = [4, 4, 2, 2, 1];
 
-pub const RECORD: usize = 28;
+/// Bytes of a header, of a box and of an entry.
+pub const HEADER: usize = 13;
+pub const BOX: usize = 2 * HEADER;
+pub const RECORD: usize = BOX + 2;
 
 /// Compared as arrays are: the first number that differs decides.
 pub type Header = [u32; FIELDS];
@@ -35,13 +38,19 @@ fn put(bytes: &mut Vec<u8>, value: u32, width: usize) {
     bytes.extend_from_slice(&value.to_be_bytes()[4 - width..]);
 }
 
-/// The 28 bytes of an entry.
-pub fn record(e: &Entry) -> Vec<u8> {
+/// A box's 26 bytes.
+pub fn box_bytes(b: &Box5) -> Vec<u8> {
     let mut bytes = Vec::with_capacity(RECORD);
     for f in 0..FIELDS {
-        put(&mut bytes, e.selector.low[f], WIDTH[f]);
-        put(&mut bytes, e.selector.high[f], WIDTH[f]);
+        put(&mut bytes, b.low[f], WIDTH[f]);
+        put(&mut bytes, b.high[f], WIDTH[f]);
     }
+    bytes
+}
+
+/// The 28 bytes of an entry.
+pub fn record(e: &Entry) -> Vec<u8> {
+    let mut bytes = box_bytes(&e.selector);
     put(&mut bytes, e.actions as u32, 2);
     bytes
 }
@@ -63,7 +72,7 @@ pub fn file(list: &[Entry]) -> Vec<u8> {
 
 /// A header's 13 bytes.
 pub fn header_bytes(h: &Header) -> Vec<u8> {
-    let mut bytes = Vec::with_capacity(13);
+    let mut bytes = Vec::with_capacity(HEADER);
     for f in 0..FIELDS {
         put(&mut bytes, h[f], WIDTH[f]);
     }

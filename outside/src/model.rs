@@ -2,7 +2,7 @@
 //! It shares no algorithm with the product: what the product finds by cutting boxes is found here
 //! by walking the cells between all ends of ranges, field by field, in the order of headers.
 
-use crate::entry::{Box5, Entry, Header, List, ALL, FIELDS, TOP, WIDTH};
+use crate::entry::{Box5, Entry, Header, List, ALL, BOX, FIELDS, RECORD, TOP, WIDTH};
 use std::collections::{BTreeSet, HashSet};
 
 // ---------------------------------------------------------------- what is turned down
@@ -174,23 +174,36 @@ fn least(
 
 // ---------------------------------------------------------------- the file
 
-fn number(bytes: &[u8]) -> u32 {
+pub fn number(bytes: &[u8]) -> u32 {
     bytes.iter().fold(0, |n, b| n * 256 + *b as u32)
 }
 
-fn entry_at(bytes: &[u8]) -> Entry {
+/// The numbers of the given widths at the start of the bytes.
+fn numbers(bytes: &[u8], widths: impl Iterator<Item = usize>) -> Vec<u32> {
     let mut rest = bytes;
-    let mut next = |width: usize| {
+    let next = |width| {
         let (head, tail) = rest.split_at(width);
         rest = tail;
         number(head)
     };
-    let mut selector = ALL;
-    for f in 0..FIELDS {
-        selector.low[f] = next(WIDTH[f]);
-        selector.high[f] = next(WIDTH[f]);
+    widths.map(next).collect()
+}
+
+pub fn header_at(bytes: &[u8]) -> Header {
+    let found = numbers(bytes, WIDTH.into_iter());
+    std::array::from_fn(|f| found[f])
+}
+
+pub fn box_at(bytes: &[u8]) -> Box5 {
+    let found = numbers(bytes, WIDTH.into_iter().flat_map(|width| [width, width]));
+    Box5 {
+        low: std::array::from_fn(|f| found[2 * f]),
+        high: std::array::from_fn(|f| found[2 * f + 1]),
     }
-    Entry { selector, actions: next(2) as u16 }
+}
+
+pub fn entry_at(bytes: &[u8]) -> Entry {
+    Entry { selector: box_at(bytes), actions: number(&bytes[BOX..RECORD]) as u16 }
 }
 
 /// Reading a file: checks 1 to 4, and the list.
@@ -263,6 +276,19 @@ pub fn write(list: &[Entry], buffer: &mut [u8]) -> Result<usize, Refusal> {
     Ok(file.len())
 }
 
+/// The same for a list of `count` entries, of which no more than the first 256 are at hand.
+pub fn write_counted(count: usize, first: &[Entry], buffer: &mut [u8]) -> Result<usize, Refusal> {
+    if count > LIST_LIMIT {
+        return Err(Refusal::Count);
+    }
+    write(first, buffer)
+}
+
+/// Reading a file and writing the list that was read.
+pub fn rewrite(file: &[u8], buffer: &mut [u8]) -> Result<usize, Refusal> {
+    write(&read(file, LIST_LIMIT)?, buffer)
+}
+
 // ---------------------------------------------------------------- search, lookup, comparison
 
 #[derive(Clone, Copy, PartialEq, Eq, Debug)]
@@ -293,6 +319,11 @@ pub fn lookup_part(file: &[u8], h: &Header) -> (usize, usize) {
         Ok(Some(i)) => (5 + 28 * i, 28),
         _ => (0, 0),
     }
+}
+
+/// The first matching entry of a table; a crossed one matches nothing.
+pub fn lookup_in_table(table: &[Entry], h: &Header) -> Option<usize> {
+    catching(table, h)
 }
 
 /// The answer to the daemon's lookup.
