@@ -15,5 +15,6 @@ pub mod points;
 pub mod process;
 pub mod product;
 pub mod random;
+pub mod replay;
 pub mod report;
 pub mod search;
