@@ -1,6 +1,6 @@
 //! One generator of inputs, from fixed seeds, for the tests and the measurements alike.
 
-use crate::entry::{file, Box5, Entry, Header, List, ALL, FIELDS, RECORD, TOP, WIDTH};
+use crate::entry::{file, Box5, Entry, Header, List, ALL, FIELDS, TOP, WIDTH};
 use crate::random::Random;
 
 // ---------------------------------------------------------------- families of lists
@@ -333,7 +333,7 @@ fn with_sets(boxes: Vec<Box5>, sets: Sets, random: &mut Random) -> List {
         .collect()
 }
 
-fn some_sets(random: &mut Random) -> Sets {
+pub fn some_sets(random: &mut Random) -> Sets {
     match random.below(4) {
         0 => Sets::Any,
         1 => Sets::OneOf(6, 12),
@@ -600,7 +600,7 @@ pub fn box_near(list: &[Entry], random: &mut Random) -> Box5 {
     b
 }
 
-// ---------------------------------------------------------------- inputs of the program, calls
+// ---------------------------------------------------------------- filings, inputs of the program
 
 /// Single ports then ALL, as in 01's example of 256 and 272 entries.
 pub fn single_ports(f: usize, n: usize) -> List {
@@ -636,6 +636,32 @@ pub fn filings_at_limit(more: u32) -> Vec<u8> {
         filing(party, &file(&list), &mut input);
     }
     input
+}
+
+/// Fields and numbers of single values in them: the working lists have 256 entries, or a few more.
+const CROWDS: [&[(usize, usize)]; 8] = [
+    &[(2, 15), (3, 15)],
+    &[(2, 16), (3, 15)],
+    &[(4, 31), (3, 7)],
+    &[(0, 7), (1, 7), (4, 3)],
+    &[(0, 8), (1, 7), (4, 3)],
+    &[(0, 3), (1, 3), (2, 3), (3, 3)],
+    &[(0, 3), (1, 3), (2, 3), (3, 3), (4, 1)],
+    &[(0, 1), (1, 1), (2, 1), (3, 1), (4, 15)],
+];
+
+/// Lists whose working list has about 256 entries; most agree, some are in conflict.
+pub fn crowd(random: &mut Random) -> Vec<List> {
+    let mut lists: Vec<List> = match random.below(12) {
+        0..=7 => random.pick(&CROWDS).iter().map(|(f, n)| single_ports(*f, *n)).collect(),
+        8..=10 => lists_at_limit(random.between(0, 3)).to_vec(),
+        _ => (0..2).map(|_| family(Shape::Slabs(5), Closing::All, 24, random)).collect(),
+    };
+    let sets = some_sets(random);
+    for entry in lists.iter_mut().flatten() {
+        entry.actions = action_set(sets, random);
+    }
+    lists
 }
 
 fn filing(party: u8, bytes: &[u8], input: &mut Vec<u8>) {
@@ -770,36 +796,4 @@ pub fn long_input(length: usize, random: &mut Random) -> Vec<u8> {
     }
     input.truncate(length);
     input
-}
-
-/// A call on the bench, with its argument.
-#[derive(Clone, PartialEq, Eq, Debug)]
-pub enum Call {
-    File(u8, Vec<u8>),
-    Withdraw(u8),
-    /// Merging into a buffer of this length.
-    Merge(usize),
-}
-
-/// Filings, withdrawals and mergings, refused ones among them.
-pub fn calls(random: &mut Random) -> Vec<Call> {
-    let parties = random.between(1, 4);
-    let sets = some_sets(random);
-    (0..random.between(1, 14))
-        .map(|_| match random.below(8) {
-            0..=3 => {
-                let list = small_list(random.between(1, 5) as usize, sets, random);
-                let bytes = match random.below(6) {
-                    0 => damaged(&list, random),
-                    _ => file(&list),
-                };
-                Call::File(some_party(parties, random), bytes)
-            }
-            4 => Call::Withdraw(some_party(parties, random)),
-            _ => {
-                let entries = random.below(12) as usize;
-                Call::Merge(*random.pick(&[7173, 5 + RECORD * entries, 4 + RECORD * entries]))
-            }
-        })
-        .collect()
 }

@@ -1,6 +1,7 @@
 //! Tests and measurements of the policy list merger from outside.
 
 pub mod baseline;
+pub mod calls;
 pub mod cells;
 pub mod daemon_cases;
 pub mod entry;

@@ -44,59 +44,22 @@ pub struct Wanted {
     pub number: u16,
 }
 
+/// A call with its arguments. Of a list with a count above 256, writing has the first 256 entries.
 #[derive(Clone, PartialEq, Eq, Debug)]
 pub enum Call {
     Open,
-    File {
-        party: u8,
-        file: Bytes,
-    },
-    Withdraw {
-        party: u8,
-    },
-    Merge {
-        buffer: Buffer,
-    },
-    Rewrite {
-        file: Bytes,
-        buffer: Buffer,
-    },
-    /// The first 256 entries of a longer list are given, and of any other all.
-    Write {
-        count: usize,
-        list: List,
-        buffer: Buffer,
-    },
-    Lookup {
-        file: Bytes,
-        header: Header,
-    },
-    LookupPart {
-        file: Bytes,
-        header: Header,
-    },
-    LookupInTable {
-        table: List,
-        header: Header,
-    },
-    Compare {
-        first: Bytes,
-        second: Bytes,
-    },
-    Search {
-        file: Bytes,
-        within: Box5,
-        wanted: Wanted,
-    },
-    LookupInC {
-        file: Bytes,
-        header: Header,
-    },
-    CompareInC {
-        first: Bytes,
-        second: Bytes,
-        buffer: Buffer,
-    },
+    File { party: u8, file: Bytes },
+    Withdraw { party: u8 },
+    Merge { buffer: Buffer },
+    Rewrite { file: Bytes, buffer: Buffer },
+    Write { count: usize, list: List, buffer: Buffer },
+    Lookup { file: Bytes, header: Header },
+    LookupPart { file: Bytes, header: Header },
+    LookupInTable { table: List, header: Header },
+    Compare { first: Bytes, second: Bytes },
+    Search { file: Bytes, within: Box5, wanted: Wanted },
+    LookupInC { file: Bytes, header: Header },
+    CompareInC { first: Bytes, second: Bytes, buffer: Buffer },
 }
 
 // ---------------------------------------------------------------- writing calls

@@ -1,11 +1,13 @@
 //! The model against 01's examples, against the point-by-point walk of small header spaces, and
 //! its bench against the history of calls.
 
+use outside::calls::{bench_calls, call_list};
 use outside::entry::{file, Box5, Entry, List, ALL};
-use outside::generate::{box_near, calls, shaped_list, single_ports, small_list, Call, Sets};
+use outside::generate::{box_near, shaped_list, single_ports, small_list, Sets};
 use outside::model::{self, Bench, Refusal, Want};
 use outside::points::{is_small, least_uncaught, merged, points};
 use outside::random::Random;
+use outside::replay::{replayed, Call};
 use outside::report::Cases;
 
 const DISCARD: u16 = 1;
@@ -168,7 +170,7 @@ fn histories(cases: &mut Cases, wanted: usize) {
     let mut random = Random::new(2);
     let end = cases.count + wanted;
     while cases.count < end {
-        let script = calls(&mut random);
+        let script = bench_calls(&mut random);
         let mut bench = Bench::default();
         let mut accepted: Vec<&Call> = vec![];
         for call in &script {
@@ -176,20 +178,22 @@ fn histories(cases: &mut Cases, wanted: usize) {
                 let mut last = None;
                 for call in &accepted {
                     match call {
-                        Call::File(p, bytes) if *p == party => last = model::read(bytes, 32).ok(),
-                        Call::Withdraw(p) if *p == party => last = None,
+                        Call::File { party: p, file } if *p == party => {
+                            last = model::read(&file.0, 32).ok()
+                        }
+                        Call::Withdraw { party: p } if *p == party => last = None,
                         _ => {}
                     }
                 }
                 last
             };
             match call {
-                Call::File(party, bytes) => {
-                    if bench.file(*party, bytes).is_ok() {
+                Call::File { party, file } => {
+                    if bench.file(*party, &file.0).is_ok() {
                         accepted.push(call);
                     }
                 }
-                Call::Withdraw(party) => {
+                Call::Withdraw { party } => {
                     let held = in_force(*party).is_some();
                     let answer = bench.withdraw(*party);
                     cases.same(answer.is_ok(), held, || format!("{script:?}"));
@@ -197,22 +201,24 @@ fn histories(cases: &mut Cases, wanted: usize) {
                         accepted.push(call);
                     }
                 }
-                Call::Merge(length) => {
+                Call::Merge { buffer: lent } => {
                     let lists: Vec<List> = (1..=8).filter_map(in_force).collect();
                     let expected = merge_of(&lists);
-                    let mut buffer = vec![0xaa; *length];
+                    let mut buffer = vec![lent.fill; lent.length];
                     match (bench.merge(&mut buffer), expected) {
                         (Ok((n, length)), Ok(list)) => {
                             cases.same(n, list.len(), || format!("{script:?}"));
                             let read = model::read(&buffer[..length], 256);
                             cases.same(read, Ok(list), || format!("{script:?}"));
-                            cases.same(buffer[length..].iter().all(|b| *b == 0xaa), true, || {
-                                "past the file".into()
-                            });
+                            cases.same(
+                                buffer[length..].iter().all(|b| *b == lent.fill),
+                                true,
+                                || "past the file".into(),
+                            );
                         }
                         (Err(Refusal::Narrow(needed)), Ok(list)) => {
                             cases.same(needed, 5 + 28 * list.len(), || format!("{script:?}"));
-                            cases.same(needed > *length, true, || "narrow".into());
+                            cases.same(needed > lent.length, true, || "narrow".into());
                         }
                         (Err(refusal), Err(expected)) => {
                             cases.same(refusal, expected, || format!("{script:?}"))
@@ -224,6 +230,7 @@ fn histories(cases: &mut Cases, wanted: usize) {
                         }
                     }
                 }
+                _ => unreachable!("only calls on the bench"),
             }
         }
     }
@@ -242,6 +249,22 @@ fn round_trips(cases: &mut Cases, wanted: usize) {
     }
 }
 
+/// Calls written in the form of the replay are read as they were, and what ends them is bad.
+fn replays(cases: &mut Cases, wanted: usize) {
+    let mut random = Random::new(4);
+    for _ in 0..wanted {
+        let list = call_list(12, &mut random);
+        let mut expected: Vec<Option<Call>> = list.calls.iter().cloned().map(Some).collect();
+        if list.calls[0] != Call::Open {
+            expected = vec![None];
+        } else if !list.ending.is_empty() {
+            expected.push(None);
+        }
+        let read: Vec<Option<Call>> = replayed(&list.bytes()).map(|(call, _)| call).collect();
+        cases.same(read, expected, || "the form of calls".into());
+    }
+}
+
 fn main() {
     let mut cases = Cases::new("model_test", 600);
     let wanted = Cases::wanted(20_000);
@@ -249,5 +272,6 @@ fn main() {
     small_spaces(&mut cases, wanted);
     histories(&mut cases, wanted / 4);
     round_trips(&mut cases, wanted / 20);
+    replays(&mut cases, wanted / 100);
     cases.done("cells, points, histories and 01's examples agree");
 }
