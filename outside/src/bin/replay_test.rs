@@ -1,0 +1,309 @@
+//! The built program `replay` against the model: replay_test PROGRAM [COUNT [FIRST]]. COUNT lists of
+//! calls are replayed, and every kind of answer has to be met. With FIRST, the first list's number,
+//! a list can be looked at again by itself, and nothing has to be met.
+
+use outside::calls::call_list;
+use outside::entry::{file, Entry, ALL};
+use outside::process::{run, Run};
+use outside::random::Random;
+use outside::replay::{
+    replayed, Buffer, Bytes, Call, Wanted, LONGEST_BUFFER, LONGEST_INPUT, LONGEST_TABLE,
+};
+use std::cmp::Ordering;
+use std::collections::BTreeMap;
+use std::path::PathBuf;
+use std::time::{Duration, Instant};
+
+const LIMIT: Duration = Duration::from_secs(60);
+
+// ---------------------------------------------------------------- kinds of answers
+
+/// Each call's number and name, and the kinds of answers that every run has to meet.
+const CALLS: [(u8, &str, &str); 13] = [
+    (0, "open", "ok"),
+    (1, "file", "ok, no 1, no 2, no 3, no 4, no 5, no 6"),
+    (2, "withdraw", "ok, no 6, no 7"),
+    (3, "merge", "ok exact, ok longer, no 8, no 9, no 10, no 11 one short, no 11 short"),
+    (4, "rewrite", "ok exact, ok longer, no 1, no 2, no 3, no 4, no 11 one short, no 11 short"),
+    (5, "write", "ok exact, ok longer, no 3, no 4, no 11 one short, no 11 short"),
+    (6, "lookup", "ok entry, ok uncaught, no 1, no 2, no 3, no 4"),
+    (7, "lookup of the part", "ok 0, ok 28"),
+    (8, "lookup in a table", "ok entry, ok entry past 255, ok uncaught"),
+    (
+        9,
+        "compare",
+        "ok refines, ok header, no 1 1, no 1 2, no 1 3, no 1 4, no 1 5, no 2 1, no 2 2, no 2 3, \
+         no 2 4, no 2 5",
+    ),
+    (10, "search", "ok none, ok header, no 1, no 2, no 3, no 4"),
+    (19, "lookup in C", "ok entry, ok 256, ok 257, ok 258, ok 259, ok 260"),
+    (
+        20,
+        "compare in C",
+        "ok 0, ok 1 short, ok 1 one short, ok 1 exact, ok 1 longer, ok 257, ok 258, ok 259, \
+         ok 260, ok 261, ok 513, ok 514, ok 515, ok 516, ok 517",
+    ),
+];
+
+/// How a lent buffer fits what is to be written.
+fn fit(lent: usize, needed: usize) -> &'static str {
+    match lent.cmp(&needed) {
+        Ordering::Equal => "exact",
+        Ordering::Greater => "longer",
+        Ordering::Less if lent + 1 == needed => "one short",
+        Ordering::Less => "short",
+    }
+}
+
+/// The kind of answer that a call's line is.
+fn kind(call: u8, line: &str) -> String {
+    let (said, buffer) = line.trim_end_matches('\n').split_once(" = ").unwrap_or((line, ""));
+    let lent = buffer.len() / 2;
+    let mut words = said.split_whitespace();
+    let word = words.next().expect("ok or no");
+    let values: Vec<usize> = words.map(|value| value.parse().expect("a number")).collect();
+    let more = match (call, word, &values[..]) {
+        (9, "no", [file, refusal, ..]) => format!("{file} {refusal}"),
+        (_, "no", [11, needed]) => format!("11 {}", fit(lent, *needed)),
+        (_, "no", [refusal, ..]) => refusal.to_string(),
+        (3..=5, _, [.., length]) => fit(lent, *length).to_string(),
+        (6 | 8, _, []) => "uncaught".to_string(),
+        (6 | 8 | 19, _, [0..=255]) => "entry".to_string(),
+        (8, _, _) => "entry past 255".to_string(),
+        (9, _, []) => "refines".to_string(),
+        (10, _, []) => "none".to_string(),
+        (9 | 10, _, _) => "header".to_string(),
+        (20, _, [1]) => format!("1 {}", fit(lent, 13)),
+        (7 | 19 | 20, _, [number]) => number.to_string(),
+        _ => String::new(),
+    };
+    format!("{word} {more}").trim_end().to_string()
+}
+
+// ---------------------------------------------------------------- holding program against model
+
+struct Test {
+    program: PathBuf,
+    account: Account,
+}
+
+/// What was replayed without a difference.
+#[derive(Default)]
+struct Account {
+    inputs: usize,
+    bytes: usize,
+    calls: usize,
+    /// How often each kind of answer was met, for each call.
+    met: BTreeMap<u8, BTreeMap<String, usize>>,
+    longest: Duration,
+}
+
+impl Account {
+    fn count(&mut self, call: u8, line: &str) {
+        self.calls += 1;
+        *self.met.entry(call).or_default().entry(kind(call, line)).or_default() += 1;
+    }
+
+    /// Prints what was met; answers what never was.
+    fn print(&self) -> Vec<String> {
+        let mut missing = vec![];
+        for (number, name, wanted) in CALLS {
+            let met = self.met.get(&number).cloned().unwrap_or_default();
+            let counts: Vec<String> = met.iter().map(|(kind, n)| format!("{kind}: {n}")).collect();
+            println!("  {number} {name}: {}", counts.join(", "));
+            for kind in wanted.split(", ").filter(|kind| !met.contains_key(*kind)) {
+                missing.push(format!("{number} {name}: {kind}"));
+            }
+        }
+        missing
+    }
+}
+
+fn fail(words: &str) -> ! {
+    eprintln!("replay_test: {words}");
+    std::process::exit(1);
+}
+
+impl Test {
+    /// Where the program's lines for an input differ from the model's.
+    fn difference(&mut self, input: &[u8]) -> Option<String> {
+        let (run, time) = run(&self.program, input, LIMIT);
+        self.account.longest = self.account.longest.max(time);
+        let Run::Ended(written) = run else {
+            return Some(format!("{run:?}"));
+        };
+        let mut lines = written.split_inclusive('\n');
+        for (number, (call, expected)) in replayed(input).enumerate() {
+            let got = lines.next().unwrap_or_default();
+            if got != expected {
+                return Some(format!(
+                    "call {number}\n  got      {got:?}\n  expected {expected:?}\n  {}",
+                    call.map_or("no call".to_string(), |call| format!("{call:?}"))
+                ));
+            }
+            if let Some(call) = call {
+                self.account.count(call.number(), got);
+            }
+        }
+        self.account.inputs += 1;
+        self.account.bytes += input.len();
+        lines.next().map(|line| format!("a line too many: {line:?}"))
+    }
+
+    fn check(&mut self, name: &str, input: &[u8]) {
+        if let Some(difference) = self.difference(input) {
+            fail(&format!("{name}: {difference}"));
+        }
+    }
+
+    /// Lists with their numbers, in one input. Where they differ it is looked for in each by itself.
+    fn check_joined(&mut self, lists: &[(u64, Vec<u8>)]) {
+        let input: Vec<u8> = lists.iter().flat_map(|(_, bytes)| bytes.clone()).collect();
+        if let Some(difference) = self.difference(&input) {
+            for (number, bytes) in lists {
+                self.check(&format!("list {number}"), bytes);
+            }
+            let numbers: Vec<u64> = lists.iter().map(|(number, _)| *number).collect();
+            fail(&format!("lists {numbers:?} one after the other: {difference}"));
+        }
+    }
+}
+
+// ---------------------------------------------------------------- the limits
+
+/// A call of each kind on small arguments, without a bad one; every byte of it can be left out.
+fn one_of_each() -> Vec<Call> {
+    let list = vec![Entry { selector: ALL, actions: 3 }];
+    let bytes = Bytes(file(&list));
+    let buffer = Buffer { length: 35, fill: 0xa5 };
+    let header = [1, 2, 3, 4, 5];
+    vec![
+        Call::Open,
+        Call::File { party: 1, file: bytes.clone() },
+        Call::Merge { buffer },
+        Call::Withdraw { party: 1 },
+        Call::Rewrite { file: bytes.clone(), buffer },
+        Call::Write { count: 1, list: list.clone(), buffer },
+        Call::Lookup { file: bytes.clone(), header },
+        Call::LookupPart { file: bytes.clone(), header },
+        Call::LookupInTable { table: list, header },
+        Call::Compare { first: bytes.clone(), second: bytes.clone() },
+        search(0),
+        Call::LookupInC { file: bytes.clone(), header },
+        Call::CompareInC { first: bytes.clone(), second: bytes, buffer },
+    ]
+}
+
+fn search(way: u8) -> Call {
+    let list = [Entry { selector: ALL, actions: 3 }];
+    Call::Search { file: Bytes(file(&list)), within: ALL, wanted: Wanted { way, number: 0 } }
+}
+
+fn opened(calls: &[Call]) -> Vec<u8> {
+    let mut bytes = Call::Open.bytes();
+    bytes.extend(calls.iter().flat_map(Call::bytes));
+    bytes
+}
+
+/// Calls with an argument at its limit and past it; each is followed by an opening.
+fn calls_at_limits() -> Vec<Call> {
+    let list = [Entry { selector: ALL, actions: 3 }];
+    let bytes = Bytes(file(&list));
+    let mut calls: Vec<Call> = (0..=255).map(search).collect();
+    for n in [LONGEST_TABLE, LONGEST_TABLE + 1] {
+        calls.push(Call::LookupInTable { table: list.repeat(n), header: [0; 5] });
+    }
+    for length in [LONGEST_BUFFER, LONGEST_BUFFER + 1, 0xffff_ffff] {
+        let buffer = Buffer { length, fill: 7 };
+        calls.push(Call::Merge { buffer });
+        calls.push(Call::Rewrite { file: bytes.clone(), buffer });
+        calls.push(Call::Write { count: 1, list: list.to_vec(), buffer });
+        calls.push(Call::CompareInC { first: bytes.clone(), second: bytes.clone(), buffer });
+    }
+    calls
+}
+
+fn limits(test: &mut Test) {
+    test.check("empty input", &[]);
+    for number in 0..=255 {
+        test.check("a number alone", &[number]);
+        test.check("a number after an opening", &[0, number]);
+    }
+    for call in one_of_each() {
+        test.check("no opening", &[call.bytes(), Call::Open.bytes()].concat());
+    }
+    for call in calls_at_limits() {
+        test.check("a call at its limits", &opened(&[call, Call::Open]));
+    }
+    let each: Vec<u8> = one_of_each().iter().flat_map(Call::bytes).collect();
+    for length in 0..=each.len() {
+        test.check("a list of each call, cut short", &each[..length]);
+    }
+    for length in [LONGEST_INPUT - 1, LONGEST_INPUT, LONGEST_INPUT + 1, 3 * LONGEST_INPUT] {
+        test.check("openings", &vec![0; length]);
+    }
+    // The last call ends with the longest input, one byte before, one after.
+    for length in [LONGEST_INPUT - 1, LONGEST_INPUT, LONGEST_INPUT + 1] {
+        let looked_up = |n| opened(&[Call::Lookup { file: Bytes(vec![1; n]), header: [0; 5] }]);
+        test.check("a long file", &looked_up(length - looked_up(0).len()));
+    }
+    let mut cut = vec![0; LONGEST_INPUT];
+    cut[LONGEST_INPUT - 1] = 2;
+    test.check("a long list, cut short", &cut);
+    // More output than a pipe or a buffer holds.
+    let merging = Call::Merge { buffer: Buffer { length: LONGEST_BUFFER, fill: 0x5a } };
+    test.check("many long lines", &opened(&vec![merging; 300]));
+}
+
+// ---------------------------------------------------------------- generated lists
+
+fn generated(test: &mut Test, first: u64, count: u64) {
+    let mut joined = vec![];
+    let mut length = 0;
+    for number in first..first + count {
+        let mut random = Random::new(number);
+        let calls = random.between(8, 40) as usize;
+        let list = call_list(calls, &mut random);
+        let bytes = list.bytes();
+        if !list.can_be_joined() {
+            test.check(&format!("list {number}"), &bytes);
+            continue;
+        }
+        if length + bytes.len() > LONGEST_INPUT {
+            test.check_joined(&joined);
+            joined.clear();
+            length = 0;
+        }
+        length += bytes.len();
+        joined.push((number, bytes));
+    }
+    test.check_joined(&joined);
+}
+
+fn main() {
+    let mut arguments = std::env::args().skip(1);
+    let program = PathBuf::from(arguments.next().expect("the program's path"));
+    let count = arguments.next().map_or(5_000, |a| a.parse().expect("a count"));
+    let first = arguments.next().map(|a| a.parse().expect("a list's number"));
+    let start = Instant::now();
+    let mut test = Test { program, account: Account::default() };
+    limits(&mut test);
+    // What has to be met is asked of the generated lists alone.
+    let limits = std::mem::take(&mut test.account);
+    generated(&mut test, first.unwrap_or(1), count);
+    let account = test.account;
+    let missing = account.print();
+    if first.is_none() && !missing.is_empty() {
+        fail(&format!("no difference, but these were never met: {missing:?}"));
+    }
+    println!(
+        "replay_test: {} inputs at the limits, {count} lists of {} calls and {} bytes in {} inputs, \
+         each answered as the model does; longest run {:.1} ms ({:.1} s)",
+        limits.inputs,
+        account.calls,
+        account.bytes,
+        account.inputs,
+        limits.longest.max(account.longest).as_secs_f64() * 1e3,
+        start.elapsed().as_secs_f64()
+    );
+}
