@@ -18,9 +18,10 @@ run:
 
 .PHONY: fuzz
 fuzz:
-	rt check merger
+	rt check merger replay
 	$(CARGO) --bin fuzz
-	outside/target/release/fuzz target/bin/merger
+	outside/target/release/fuzz merger target/bin/merger
+	outside/target/release/fuzz replay target/bin/replay
 else
 run: lookups
 endif

@@ -1,15 +1,45 @@
-//! Random and mutated bytes for the built program: fuzz PROGRAM [COUNT] [SEED]. It must end with
-//! status 0 within the time limit on each, and print what the model prints.
+//! Random and mutated bytes for a built program: fuzz merger|replay PROGRAM [COUNT] [SEED]. It must
+//! end with status 0 within the time limit on each, and print what the model prints.
 
+use outside::calls::call_list;
 use outside::generate::program_input;
 use outside::model;
 use outside::process::{run, Run};
 use outside::random::Random;
+use outside::replay::{replay, Call};
 use outside::report::hexadecimal;
 use std::path::PathBuf;
 use std::time::{Duration, Instant};
 
 const LIMIT: Duration = Duration::from_secs(10);
+
+/// What a program is fed at first, and what it has to print.
+struct Target {
+    fresh: fn(&mut Random) -> Vec<u8>,
+    expected: fn(&[u8]) -> String,
+}
+
+const MERGER: Target = Target { fresh: fresh_filings, expected: model::program };
+const REPLAY: Target = Target { fresh: fresh_calls, expected: replay };
+
+fn random_bytes(random: &mut Random) -> Vec<u8> {
+    (0..random.below(400)).map(|_| random.next() as u8).collect()
+}
+
+fn fresh_filings(random: &mut Random) -> Vec<u8> {
+    match random.below(10) {
+        0 => random_bytes(random),
+        _ => program_input(random),
+    }
+}
+
+/// Few calls, so that a change of one byte often meets another argument than a file.
+fn fresh_calls(random: &mut Random) -> Vec<u8> {
+    match random.below(10) {
+        0 => [Call::Open.bytes(), random_bytes(random)].concat(),
+        _ => call_list(random.between(1, 8) as usize, random).bytes(),
+    }
+}
 
 /// One change: a bit, a byte, bytes added, dropped, repeated, or taken from another input.
 fn mutated(input: &[u8], other: &[u8], random: &mut Random) -> Vec<u8> {
@@ -39,20 +69,19 @@ fn mutated(input: &[u8], other: &[u8], random: &mut Random) -> Vec<u8> {
     bytes
 }
 
-fn fresh(random: &mut Random) -> Vec<u8> {
-    match random.below(10) {
-        0 => (0..random.below(400)).map(|_| random.next() as u8).collect(),
-        _ => program_input(random),
-    }
-}
-
 fn main() {
     let mut arguments = std::env::args().skip(1);
+    let name = arguments.next().expect("merger or replay");
+    let target = match name.as_str() {
+        "merger" => MERGER,
+        "replay" => REPLAY,
+        _ => panic!("merger or replay, not {name}"),
+    };
     let program = PathBuf::from(arguments.next().expect("the program's path"));
     let count = arguments.next().map_or(10_000, |a| a.parse().expect("a count"));
     let seed = arguments.next().map_or(1, |a| a.parse().expect("a seed"));
     let mut random = Random::new(seed);
-    let mut pool: Vec<Vec<u8>> = (0..64).map(|_| fresh(&mut random)).collect();
+    let mut pool: Vec<Vec<u8>> = (0..64).map(|_| (target.fresh)(&mut random)).collect();
     let start = Instant::now();
     let (mut longest, mut bytes) = (Duration::ZERO, 0);
     for i in 0..count {
@@ -65,19 +94,24 @@ fn main() {
         let (answer, time) = run(&program, &input, LIMIT);
         longest = longest.max(time);
         bytes += input.len();
-        if answer != Run::Ended(model::program(&input)) {
-            eprintln!("fuzz: input {i} of seed {seed}: {answer:?}");
-            eprintln!("  expected {:?}", model::program(&input));
+        let expected = (target.expected)(&input);
+        if answer != Run::Ended(expected.clone()) {
+            eprintln!("fuzz {name}: input {i} of seed {seed}: {answer:?}");
+            eprintln!("  expected {expected:?}");
             eprintln!("  input {}", hexadecimal(&input));
             std::process::exit(1);
         }
-        // Changed inputs are changed further; now and then a slot starts afresh.
-        pool[slot] =
-            if input.len() > 20_000 || random.one_in(6) { fresh(&mut random) } else { input };
+        // Changed inputs are changed further; now and then a slot starts afresh. What stands behind
+        // a bad call is not read, so such a change is not kept.
+        if input.len() > 20_000 || random.one_in(6) {
+            pool[slot] = (target.fresh)(&mut random);
+        } else if !expected.ends_with("bad\n") {
+            pool[slot] = input;
+        }
     }
     println!(
-        "fuzz: {count} inputs of {bytes} bytes in all (seed {seed}), none crashed, none hung, each \
-         answered as the model does; longest {:.1} ms ({:.1} s)",
+        "fuzz {name}: {count} inputs of {bytes} bytes in all (seed {seed}), none crashed, none hung, \
+         each answered as the model does; longest {:.1} ms ({:.1} s)",
         longest.as_secs_f64() * 1e3,
         start.elapsed().as_secs_f64()
     );
