@@ -171,7 +171,7 @@ impl Test {
 
 // ---------------------------------------------------------------- the limits
 
-/// A call of each kind on small arguments, without a bad one; every byte of it can be left out.
+/// A list with one call of each kind, on small arguments.
 fn one_of_each() -> Vec<Call> {
     let list = vec![Entry { selector: ALL, actions: 3 }];
     let bytes = Bytes(file(&list));
@@ -228,6 +228,9 @@ fn limits(test: &mut Test) {
     for number in 0..=255 {
         test.check("a number alone", &[number]);
         test.check("a number after an opening", &[0, number]);
+        // Arguments of length 0, and of greater lengths than the input has.
+        test.check("a number before zeros", &[[0, number].as_slice(), &[0; 64]].concat());
+        test.check("a number before ones", &[[0, number].as_slice(), &[0xff; 64]].concat());
     }
     for call in one_of_each() {
         test.check("no opening", &[call.bytes(), Call::Open.bytes()].concat());
