@@ -657,9 +657,15 @@ pub fn crowd(random: &mut Random) -> Vec<List> {
         8..=10 => lists_at_limit(random.between(0, 3)).to_vec(),
         _ => (0..2).map(|_| family(Shape::Slabs(5), Closing::All, 24, random)).collect(),
     };
-    let sets = some_sets(random);
-    for entry in lists.iter_mut().flatten() {
-        entry.actions = action_set(sets, random);
+    if random.one_in(3) {
+        // Only the last entries leave an action out, each another, so that nothing can be struck.
+        for (own, list) in lists.iter_mut().enumerate() {
+            list.iter_mut().for_each(|e| e.actions = 0xffff);
+            list.last_mut().expect("not empty").actions = !(1 << own);
+        }
+    } else {
+        let sets = some_sets(random);
+        lists.iter_mut().flatten().for_each(|e| e.actions = action_set(sets, random));
     }
     lists
 }

@@ -23,7 +23,11 @@ const CALLS: [(u8, &str, &str); 13] = [
     (0, "open", "ok"),
     (1, "file", "ok, no 1, no 2, no 3, no 4, no 5, no 6"),
     (2, "withdraw", "ok, no 6, no 7"),
-    (3, "merge", "ok exact, ok longer, no 8, no 9, no 10, no 11 one short, no 11 short"),
+    (
+        3,
+        "merge",
+        "ok exact, ok longer, ok 256 entries, no 8, no 9, no 10, no 11 one short, no 11 short",
+    ),
     (4, "rewrite", "ok exact, ok longer, no 1, no 2, no 3, no 4, no 11 one short, no 11 short"),
     (5, "write", "ok exact, ok longer, no 3, no 4, no 11 one short, no 11 short"),
     (6, "lookup", "ok entry, ok uncaught, no 1, no 2, no 3, no 4"),
@@ -66,6 +70,7 @@ fn kind(call: u8, line: &str) -> String {
         (9, "no", [file, refusal, ..]) => format!("{file} {refusal}"),
         (_, "no", [11, needed]) => format!("11 {}", fit(lent, *needed)),
         (_, "no", [refusal, ..]) => refusal.to_string(),
+        (3, _, [256, _]) => "256 entries".to_string(),
         (3..=5, _, [.., length]) => fit(lent, *length).to_string(),
         (6 | 8, _, []) => "uncaught".to_string(),
         (6 | 8 | 19, _, [0..=255]) => "entry".to_string(),
@@ -93,13 +98,18 @@ struct Account {
     inputs: usize,
     bytes: usize,
     calls: usize,
+    bad: usize,
     /// How often each kind of answer was met, for each call.
     met: BTreeMap<u8, BTreeMap<String, usize>>,
     longest: Duration,
 }
 
 impl Account {
-    fn count(&mut self, call: u8, line: &str) {
+    fn count(&mut self, call: Option<Call>, line: &str) {
+        let Some(call) = call.map(|call| call.number()) else {
+            self.bad += 1;
+            return;
+        };
         self.calls += 1;
         *self.met.entry(call).or_default().entry(kind(call, line)).or_default() += 1;
     }
@@ -114,6 +124,10 @@ impl Account {
             for kind in wanted.split(", ").filter(|kind| !met.contains_key(*kind)) {
                 missing.push(format!("{number} {name}: {kind}"));
             }
+        }
+        println!("  bad: {}", self.bad);
+        if self.bad == 0 {
+            missing.push("bad".to_string());
         }
         missing
     }
@@ -141,9 +155,7 @@ impl Test {
                     call.map_or("no call".to_string(), |call| format!("{call:?}"))
                 ));
             }
-            if let Some(call) = call {
-                self.account.count(call.number(), got);
-            }
+            self.account.count(call, got);
         }
         self.account.inputs += 1;
         self.account.bytes += input.len();
@@ -286,7 +298,7 @@ fn generated(test: &mut Test, first: u64, count: u64) {
 fn main() {
     let mut arguments = std::env::args().skip(1);
     let program = PathBuf::from(arguments.next().expect("the program's path"));
-    let count = arguments.next().map_or(5_000, |a| a.parse().expect("a count"));
+    let count = arguments.next().map_or(4_000, |a| a.parse().expect("a count"));
     let first = arguments.next().map(|a| a.parse().expect("a list's number"));
     let start = Instant::now();
     let mut test = Test { program, account: Account::default() };
