@@ -6,14 +6,15 @@ use mathlib.Core.Path.{_≡_, refl, sym, _∙_, ap, ap₂}
 use mathlib.Core.Logic.{_⊎_, inl, inr}
 use mathlib.Core.Bool.{Bool, true, false, not, cond, _&&_, _||_, or-assoc, and-false, and-or-distrib-left, and-or-distrib-right}
 use mathlib.Core.List.{List, [], _∷_, map}
-use lib.Dec.{ltb, leb}
-use borrow.Author.Tests.{ltb-true, ltb-false, leb-true, leb-false, lt-ltb, le-ltb, le-leb}
+use lib.Dec.{ltb, leb, eqb}
+use borrow.Author.Tests.{ltb-true, ltb-false, leb-true, leb-false, lt-ltb, le-ltb, le-leb, eqb-true}
 use Rattle.policy.specs.declared.region.Range.{Range}
 use Rattle.policy.specs.Row.{Row, precedes}
-use Rattle.policy.specs.Box.{range, within, inside, proper, lows, common, meet}
+use Rattle.policy.specs.Box.{range, within, inside, proper, same, lows, common, meet}
 use Rattle.policy.specs.Cut.{empty, below, above, cut}
 use Rattle.policy.proofs.Bool.{case, clash, is-false, and-intro, and-left, and-right, same-truth}
 use Rattle.policy.proofs.Order.{pre-cases}
+use Rattle.policy.proofs.Branches.{ends-are, paired}
 
 -- some element of the list has the property
 abbrev pub any {ℓ κ} : {A : Type ℓ} {X : Type κ} → (A → X → Bool) → List A → X → Bool
@@ -190,3 +191,12 @@ cut-is (suc k) b s x =
         sym (or-assoc (p && u) (q && u) (w && v && (u && not t)))
         ∙ ap (_|| w && v && (u && not t)) (sym (and-or-distrib-right p q u) ∙ ap (_&& u) e)
         ∙ last w v u t
+
+-- boxes with the same ranges are one
+pub same-box : (k : ℕ) (a b : Row Range k) → same k a b ≡ true → a ≡ b
+same-box zero a b e = refl
+same-box (suc k) a b e =
+    let t = and-left (eqb (a .0 .low) (b .0 .low) && eqb (a .0 .high) (b .0 .high)) (same k (a .1) (b .1)) e in
+    paired
+    (ends-are (eqb-true (a .0 .low) (b .0 .low) (and-left (eqb (a .0 .low) (b .0 .low)) (eqb (a .0 .high) (b .0 .high)) t)) (eqb-true (a .0 .high) (b .0 .high) (and-right (eqb (a .0 .low) (b .0 .low)) (eqb (a .0 .high) (b .0 .high)) t)))
+    (same-box k (a .1) (b .1) (and-right (eqb (a .0 .low) (b .0 .low) && eqb (a .0 .high) (b .0 .high)) (same k (a .1) (b .1)) e))

@@ -7,3 +7,6 @@ pub mod ActionSets
 pub mod Policy
 pub mod Branches
 pub mod Rows
+pub mod Every
+pub mod Loops
+pub mod Numbers

@@ -6,5 +6,6 @@ pub mod Found
 pub mod Least
 pub mod Actions
 pub mod Entry
+pub mod Rows
 pub mod Policy
 pub mod Refusals

@@ -4,9 +4,13 @@ use crate::region::Range;
 use crate::region::Region;
 use crate::region::holds;
 use crate::region::is_proper;
+use crate::sides::ROW;
+use crate::sides::SIDES;
+use crate::sides::row_sides;
 ghost use mathlib.Core.Path.{_≡_};
 ghost use Rattle.policy.specs.Header.{ranges};
 ghost use Rattle.policy.specs.Entry.{selector, matches, crossed};
+ghost use Rattle.policy.specs.Rows.{boxOf, numbersOf};
 
 // Laid out as in C, which may lend a table of them.
 #[repr(C)]
@@ -56,6 +60,33 @@ pub fn selector_of(e: Entry) -> Region
             high: e.protocol_high as u32,
         },
     }
+}
+
+// The row of e.
+pub fn row_of(e: Entry) -> [u32; ROW]
+    ensures { λ r. ⌜ r ≡ numbersOf e ⌝ }
+{
+    [
+        e.local_low,
+        e.local_high,
+        e.remote_low,
+        e.remote_high,
+        e.local_port_low as u32,
+        e.local_port_high as u32,
+        e.remote_port_low as u32,
+        e.remote_port_high as u32,
+        e.protocol_low as u32,
+        e.protocol_high as u32,
+        e.actions as u32,
+    ]
+}
+
+// The sides of e's selector.
+pub fn sides_of(e: Entry) -> [u32; SIDES]
+    ensures { λ r. ⌜ boxOf r 0 ≡ selector e ⌝ }
+{
+    let row = row_of(e);
+    row_sides(&row, 0)
 }
 
 // Whether e matches h.

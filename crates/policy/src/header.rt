@@ -1,7 +1,9 @@
-// Headers and their order.
+// Headers, their order, and the box of them all.
+use crate::sides::SIDES;
 ghost use mathlib.Core.Path.{_≡_};
-ghost use Rattle.policy.specs.Header.{before};
+ghost use Rattle.policy.specs.Header.{before, everything};
 ghost use Rattle.policy.specs.Found.{lesser};
+ghost use Rattle.policy.specs.Rows.{boxOf};
 
 // Five numbers; every combination is a header.
 pub struct Header {
@@ -54,4 +56,22 @@ pub fn lesser_of(a: Found, b: Found) -> Found
             }
         },
     }
+}
+
+// 01's ALL: the box of every header.
+pub fn whole() -> [u32; SIDES]
+    ensures { λ r. ⌜ boxOf r 0 ≡ everything ⌝ }
+{
+    [
+        0,
+        0xffff_ffff,
+        0,
+        0xffff_ffff,
+        0,
+        0xffff,
+        0,
+        0xffff,
+        0,
+        0xff,
+    ]
 }
