@@ -8,4 +8,5 @@ pub mod number;
 pub mod put;
 pub mod read;
 pub mod record;
+pub mod rows;
 pub mod write;
