@@ -9,8 +9,8 @@ pub fn shared_actions(a: u16, b: u16) -> u16
     a & b
 }
 
-// Whether every action of a is in b.
-pub fn is_subset(a: u16, b: u16) -> bool
+// Whether every action of a is in b. Rows hold their sets as u32.
+pub fn is_subset(a: u32, b: u32) -> bool
     ensures { λ r. ⌜ r ≡ subset a b ⌝ }
 {
     a & b == a

@@ -23,14 +23,13 @@ use Rattle.policy.specs.Refusals.{numbers, accepted}
 use Rattle.policy.proofs.Bool.{clash, not-true, and-left}
 use Rattle.policy.proofs.Order.{Order, earlier, equal, later, order}
 use Rattle.policy.proofs.Branch.{crossed-none}
-use Rattle.wire.specs.Format.{recordSize, entryAt, entriesFrom}
-use Rattle.wire.proofs.Entries.{entries-split, entries-take}
 use Rattle.region.specs.declared.treated.Sets.{Sets}
 use Rattle.region.specs.declared.treated.Sets.the-variants.{Same, Other, Lacking}
-use Rattle.region.specs.Records.{recordsIn}
+use Rattle.region.specs.Rows.{rowSize, boxOf, rowAt, rowsFrom, rowsIn}
 use Rattle.region.specs.Corner.{improves}
 use Rattle.region.specs.Treated.{wanted}
 use Rattle.region.specs.Search.{foundAnswer}
+use Rattle.region.proofs.Members.{rows-split, rows-take}
 use Rattle.region.proofs.Uses.{leftIn, judged-wanted, judged-passed, judged-end, judged-exhausted}
 
 -- ---- is_wanted
@@ -81,109 +80,109 @@ exhausted-at r best c h t e a i n = go r best (sym e ∙ a) (sym i ∙ not-true 
 
 -- ---- the entries before a place, and from it on
 
-pub firsts-in : (s : List ℕ) (i n : ℕ) → i ≤ length s / recordSize → n ≡ recordSize * i → recordsIn (take n s) ≡ entriesFrom s 0 i
+pub firsts-in : (s : List ℕ) (i n : ℕ) → i ≤ length s / rowSize → n ≡ rowSize * i → rowsIn (take n s) ≡ rowsFrom s 0 i
 firsts-in s i n l e =
-    ap (entriesFrom (take n s) 0) (ap (_/ recordSize) (length-take n s ∙ shorter n i (length s) l e) ∙ times i)
-    ∙ entries-take s n 0 i (fits n i e)
+    ap (rowsFrom (take n s) 0) (ap (_/ rowSize) (length-take n s ∙ shorter n i (length s) l e) ∙ times i)
+    ∙ rows-take s n 0 i (fits n i e)
   where
-    shorter : (n i m : ℕ) → i ≤ m / recordSize → n ≡ recordSize * i → min n m ≡ recordSize * i
+    shorter : (n i m : ℕ) → i ≤ m / rowSize → n ≡ rowSize * i → min n m ≡ rowSize * i
     shorter n i m l e = omega arith
 
-    times : (i : ℕ) → recordSize * i / recordSize ≡ i
+    times : (i : ℕ) → rowSize * i / rowSize ≡ i
     times i = omega arith
 
-    fits : (n i : ℕ) → n ≡ recordSize * i → 0 + recordSize * i ≤ n
+    fits : (n i : ℕ) → n ≡ rowSize * i → 0 + rowSize * i ≤ n
     fits n i e = omega arith
 
 module _ (s : List ℕ) where
-  -- the records are the first i and the others
+  -- the rows from number i on
   abbrev from : ℕ → List Entry
-  from i = entriesFrom s (recordSize * i) (length s / recordSize - i)
+  from i = rowsFrom s (rowSize * i) (length s / rowSize - i)
 
-  first-of : (i : ℕ) → i < length s / recordSize → from i ≡ entryAt s (recordSize * i) ∷ from (i + 1)
+  first-of : (i : ℕ) → i < length s / rowSize → from i ≡ rowAt s (rowSize * i) ∷ from (i + 1)
   first-of i l =
-      ap (entriesFrom s (recordSize * i)) (one-more (length s / recordSize) i l)
-      ∙ ap₂ (λ (at n : ℕ). entryAt s (recordSize * i) ∷ entriesFrom s at n) (next i) (less (length s / recordSize) i)
+      ap (rowsFrom s (rowSize * i)) (one-more (length s / rowSize) i l)
+      ∙ ap₂ (λ (at n : ℕ). rowAt s (rowSize * i) ∷ rowsFrom s at n) (next i) (less (length s / rowSize) i)
     where
       one-more : (n i : ℕ) → i < n → n - i ≡ suc (n - (i + 1))
       one-more n i l = omega arith
 
-      next : (i : ℕ) → recordSize * i + recordSize ≡ recordSize * (i + 1)
+      next : (i : ℕ) → rowSize * i + rowSize ≡ rowSize * (i + 1)
       next i = omega arith
 
       less : (n i : ℕ) → n - (i + 1) ≡ n - (i + 1)
       less n i = refl
 
-  firsts-more : (i : ℕ) → entriesFrom s 0 (i + 1) ≡ entriesFrom s 0 i ++ entryAt s (recordSize * i) ∷ []
-  firsts-more i = entries-split s 0 i 1 ∙ ap (λ (at : ℕ). entriesFrom s 0 i ++ entryAt s at ∷ []) (from-zero i)
+  firsts-more : (i : ℕ) → rowsFrom s 0 (i + 1) ≡ rowsFrom s 0 i ++ rowAt s (rowSize * i) ∷ []
+  firsts-more i = rows-split s 0 i 1 ∙ ap (λ (at : ℕ). rowsFrom s 0 i ++ rowAt s at ∷ []) (from-zero i)
     where
-      from-zero : (i : ℕ) → 0 + recordSize * i ≡ recordSize * i
+      from-zero : (i : ℕ) → 0 + rowSize * i ≡ rowSize * i
       from-zero i = omega arith
 
 -- ---- the loop
 
 -- what is still to be found behind the front and the first i entries
 abbrev pub Left : Headers → Box → Sets → Bool → List Entry → List ℕ → ℕ → Found
-Left hs x q d front s i = leftIn hs x q d (front ++ entriesFrom s 0 i) (entriesFrom s (recordSize * i) (length s / recordSize - i))
+Left hs x q d front s i = leftIn hs x q d (front ++ rowsFrom s 0 i) (rowsFrom s (rowSize * i) (length s / rowSize - i))
 
 module _ (hs : Headers) (x : Box) (q : Sets) (d : Bool) (front : List Entry) (s : List ℕ) where
   abbrev mask : ℕ → List Entry
-  mask i = front ++ entriesFrom s 0 i
+  mask i = front ++ rowsFrom s 0 i
 
-  pub left-start : (n : ℕ) → n ≡ length s / recordSize → leftIn hs x q d front (entriesFrom s 0 n) ≡ Left hs x q d front s 0
-  left-start n e = ap₂ (λ (f p : List Entry). leftIn hs x q d f p) (sym (append-nil front)) (ap (entriesFrom s 0) (e ∙ all (length s / recordSize)))
+  pub left-start : (n : ℕ) → n ≡ length s / rowSize → leftIn hs x q d front (rowsFrom s 0 n) ≡ Left hs x q d front s 0
+  left-start n e = ap₂ (λ (f p : List Entry). leftIn hs x q d f p) (sym (append-nil front)) (ap (rowsFrom s 0) (e ∙ all (length s / rowSize)))
     where
       all : (n : ℕ) → n ≡ n - 0
       all n = omega arith
 
   -- one entry more
-  left-again : (i at : ℕ) (found new : Found) → i < length s / recordSize → at ≡ recordSize * i
-      → new ≡ lesser (cond (wanted q (entryAt s at .actions)) (leastIn hs (meet arity x (selector (entryAt s at))) (missed (front ++ recordsIn (take at s)))) Nothing) found
+  left-again : (i at : ℕ) (found new : Found) → i < length s / rowSize → at ≡ rowSize * i
+      → new ≡ lesser (cond (wanted q (rowAt s at .actions)) (leastIn hs (meet arity x (boxOf s at)) (missed (front ++ rowsIn (take at s)))) Nothing) found
       → lesser (Left hs x q d front s i) found ≡ lesser (Left hs x q d front s (i + 1)) new
   left-again i at found new l e n =
       ap (λ (p : List Entry). lesser (leftIn hs x q d (mask i) p) found) (first-of s i l)
-      ∙ step (wanted q (entryAt s (recordSize * i) .actions)) refl
+      ∙ step (wanted q (rowAt s (rowSize * i) .actions)) refl
       ∙ ap (λ (f : List Entry). lesser (leftIn hs x q d f (from s (i + 1))) part) more
       ∙ ap (lesser (Left hs x q d front s (i + 1))) (sym here)
     where
       part : Found
-      part = lesser (cond (wanted q (entryAt s (recordSize * i) .actions)) (leastIn hs (meet arity x (selector (entryAt s (recordSize * i)))) (missed (mask i))) Nothing) found
+      part = lesser (cond (wanted q (rowAt s (rowSize * i) .actions)) (leastIn hs (meet arity x (selector (rowAt s (rowSize * i)))) (missed (mask i))) Nothing) found
 
-      more : mask i ++ entryAt s (recordSize * i) ∷ [] ≡ mask (i + 1)
-      more = append-assoc front (entriesFrom s 0 i) (entryAt s (recordSize * i) ∷ []) ∙ ap (front ++_) (sym (firsts-more s i))
+      more : mask i ++ rowAt s (rowSize * i) ∷ [] ≡ mask (i + 1)
+      more = append-assoc front (rowsFrom s 0 i) (rowAt s (rowSize * i) ∷ []) ∙ ap (front ++_) (sym (firsts-more s i))
 
-      few : i < length s / recordSize → i ≤ length s / recordSize
+      few : i < length s / rowSize → i ≤ length s / rowSize
       few l = omega arith
 
       here : new ≡ part
       here =
           n
-          ∙ ap (λ (f : List Entry). lesser (cond (wanted q (entryAt s at .actions)) (leastIn hs (meet arity x (selector (entryAt s at))) (missed (front ++ f))) Nothing) found) (firsts-in s i at (few l) e)
-          ∙ ap (λ (at : ℕ). lesser (cond (wanted q (entryAt s at .actions)) (leastIn hs (meet arity x (selector (entryAt s at))) (missed (mask i))) Nothing) found) e
+          ∙ ap (λ (f : List Entry). lesser (cond (wanted q (rowAt s at .actions)) (leastIn hs (meet arity x (boxOf s at)) (missed (front ++ f))) Nothing) found) (firsts-in s i at (few l) e)
+          ∙ ap (λ (at : ℕ). lesser (cond (wanted q (rowAt s at .actions)) (leastIn hs (meet arity x (boxOf s at)) (missed (mask i))) Nothing) found) e
 
-      step : (t : Bool) → wanted q (entryAt s (recordSize * i) .actions) ≡ t
-          → lesser (leftIn hs x q d (mask i) (entryAt s (recordSize * i) ∷ from s (i + 1))) found
-          ≡ lesser (leftIn hs x q d (mask i ++ entryAt s (recordSize * i) ∷ []) (from s (i + 1))) part
+      step : (t : Bool) → wanted q (rowAt s (rowSize * i) .actions) ≡ t
+          → lesser (leftIn hs x q d (mask i) (rowAt s (rowSize * i) ∷ from s (i + 1))) found
+          ≡ lesser (leftIn hs x q d (mask i ++ rowAt s (rowSize * i) ∷ []) (from s (i + 1))) part
       step true w =
-          judged-wanted hs x q d (mask i) (entryAt s (recordSize * i)) (from s (i + 1)) found w
-          ∙ ap (λ (t : Bool). lesser (leftIn hs x q d (mask i ++ entryAt s (recordSize * i) ∷ []) (from s (i + 1))) (lesser (cond t (leastIn hs (meet arity x (selector (entryAt s (recordSize * i)))) (missed (mask i))) Nothing) found)) (sym w)
+          judged-wanted hs x q d (mask i) (rowAt s (rowSize * i)) (from s (i + 1)) found w
+          ∙ ap (λ (t : Bool). lesser (leftIn hs x q d (mask i ++ rowAt s (rowSize * i) ∷ []) (from s (i + 1))) (lesser (cond t (leastIn hs (meet arity x (selector (rowAt s (rowSize * i)))) (missed (mask i))) Nothing) found)) (sym w)
       step false w =
-          judged-passed hs x q d (mask i) (entryAt s (recordSize * i)) (from s (i + 1)) found w
-          ∙ ap (λ (t : Bool). lesser (leftIn hs x q d (mask i ++ entryAt s (recordSize * i) ∷ []) (from s (i + 1))) (lesser (cond t (leastIn hs (meet arity x (selector (entryAt s (recordSize * i)))) (missed (mask i))) Nothing) found)) (sym w)
+          judged-passed hs x q d (mask i) (rowAt s (rowSize * i)) (from s (i + 1)) found w
+          ∙ ap (λ (t : Bool). lesser (leftIn hs x q d (mask i ++ rowAt s (rowSize * i) ∷ []) (from s (i + 1))) (lesser (cond t (leastIn hs (meet arity x (selector (rowAt s (rowSize * i)))) (missed (mask i))) Nothing) found)) (sym w)
 
   -- its set is wanted, it has a part of x, and it was searched; or not
-  module _ (i at : ℕ) (found : Found) (t : Bool) (l : i < length s / recordSize) (e : at ≡ recordSize * i)
-      (w : t ≡ (wanted q (entryAt s at .actions) && proper arity (meet arity x (selector (entryAt s at))))) where
+  module _ (i at : ℕ) (found : Found) (t : Bool) (l : i < length s / rowSize) (e : at ≡ rowSize * i)
+      (w : t ≡ (wanted q (rowAt s at .actions) && proper arity (meet arity x (boxOf s at)))) where
     abbrev wants : Bool
-    wants = wanted q (entryAt s at .actions)
+    wants = wanted q (rowAt s at .actions)
 
     abbrev inner : Box
-    inner = meet arity x (selector (entryAt s at))
+    inner = meet arity x (boxOf s at)
 
     abbrev part : Found
-    part = leastIn hs (meet arity x (selector (entryAt s at))) (missed (front ++ recordsIn (take at s)))
+    part = leastIn hs (meet arity x (boxOf s at)) (missed (front ++ rowsIn (take at s)))
 
-    pub left-searched : (new : Found) → t ≡ true → new ≡ lesser (leastIn hs (meet arity x (selector (entryAt s at))) (missed (front ++ recordsIn (take at s)))) found
+    pub left-searched : (new : Found) → t ≡ true → new ≡ lesser (leastIn hs (meet arity x (boxOf s at)) (missed (front ++ rowsIn (take at s)))) found
         → lesser (Left hs x q d front s i) found ≡ lesser (Left hs x q d front s (i + 1)) new
     left-searched new y n = left-again i at found new l e (n ∙ ap (λ (t : Bool). lesser (cond t part Nothing) found) (sym (and-left wants (proper arity inner) (sym w ∙ y))))
 
@@ -192,33 +191,33 @@ module _ (hs : Headers) (x : Box) (q : Sets) (d : Bool) (front : List Entry) (s 
       where
         go : (v : Bool) → (v && proper arity inner) ≡ false → found ≡ lesser (cond v part Nothing) found
         go false p = refl
-        go true p = ap (λ (r : Found). lesser r found) (sym (crossed-none hs (missed (front ++ recordsIn (take at s))) inner p))
+        go true p = ap (λ (r : Found). lesser r found) (sym (crossed-none hs (missed (front ++ rowsIn (take at s))) inner p))
 
   -- nothing is left
-  pub left-exhausted : (i at : ℕ) (found : Found) → i < length s / recordSize → at ≡ recordSize * i
-      → lesser (leastIn hs x (missed (front ++ recordsIn (take at s)))) found ≡ found → found ≡ lesser (Left hs x q d front s i) found
+  pub left-exhausted : (i at : ℕ) (found : Found) → i < length s / rowSize → at ≡ rowSize * i
+      → lesser (leastIn hs x (missed (front ++ rowsIn (take at s)))) found ≡ found → found ≡ lesser (Left hs x q d front s i) found
   left-exhausted i at found l e g =
       sym (judged-exhausted hs x q d (mask i) (from s i) found (ap (λ (f : List Entry). lesser (leastIn hs x (missed (front ++ f))) found) (sym (firsts-in s i at (few l) e)) ∙ g))
     where
-      few : i < length s / recordSize → i ≤ length s / recordSize
+      few : i < length s / rowSize → i ≤ length s / rowSize
       few l = omega arith
 
   -- the end of the list
-  left-end : (i : ℕ) → i ≡ length s / recordSize → Left hs x q d front s i ≡ cond d (leastIn hs x (missed (front ++ recordsIn s))) Nothing
+  left-end : (i : ℕ) → i ≡ length s / rowSize → Left hs x q d front s i ≡ cond d (leastIn hs x (missed (front ++ rowsIn s))) Nothing
   left-end i e =
-      ap (leftIn hs x q d (mask i)) (ap (entriesFrom s (recordSize * i)) (none i (length s / recordSize) e))
+      ap (leftIn hs x q d (mask i)) (ap (rowsFrom s (rowSize * i)) (none i (length s / rowSize) e))
       ∙ judged-end hs x q d (mask i)
       ∙ ap (λ (j : ℕ). cond d (leastIn hs x (missed (mask j))) Nothing) e
     where
       none : (i n : ℕ) → i ≡ n → n - i ≡ 0
       none i n e = omega arith
 
-  pub left-uncaught : (i : ℕ) (found r : Found) → i ≤ length s / recordSize → length s / recordSize ≤ i → d ≡ true
-      → r ≡ lesser (leastIn hs x (missed (front ++ recordsIn s))) found → r ≡ lesser (Left hs x q d front s i) found
-  left-uncaught i found r l m t e = e ∙ ap (λ (f : Found). lesser f found) (sym (left-end i (omega arith) ∙ ap (λ (t : Bool). cond t (leastIn hs x (missed (front ++ recordsIn s))) Nothing) t))
+  pub left-uncaught : (i : ℕ) (found r : Found) → i ≤ length s / rowSize → length s / rowSize ≤ i → d ≡ true
+      → r ≡ lesser (leastIn hs x (missed (front ++ rowsIn s))) found → r ≡ lesser (Left hs x q d front s i) found
+  left-uncaught i found r l m t e = e ∙ ap (λ (f : Found). lesser f found) (sym (left-end i (omega arith) ∙ ap (λ (t : Bool). cond t (leastIn hs x (missed (front ++ rowsIn s))) Nothing) t))
 
-  pub left-none : (i : ℕ) (found : Found) → i ≤ length s / recordSize → length s / recordSize ≤ i → d ≡ false → found ≡ lesser (Left hs x q d front s i) found
-  left-none i found l m t = ap (λ (f : Found). lesser f found) (sym (left-end i (omega arith) ∙ ap (λ (t : Bool). cond t (leastIn hs x (missed (front ++ recordsIn s))) Nothing) t))
+  pub left-none : (i : ℕ) (found : Found) → i ≤ length s / rowSize → length s / rowSize ≤ i → d ≡ false → found ≡ lesser (Left hs x q d front s i) found
+  left-none i found l m t = ap (λ (f : Found). lesser f found) (sym (left-end i (omega arith) ∙ ap (λ (t : Bool). cond t (leastIn hs x (missed (front ++ rowsIn s))) Nothing) t))
 
 -- ---- least_treated_behind
 
@@ -230,13 +229,13 @@ front-exhausts hs x q d front p best t e f =
 
 -- ---- with_entry
 
-pub entry-part : (hs : Headers) (s : List ℕ) (at n : ℕ) (front : List Entry) (x p r : Box) (best found : Found) → n ≡ at → r ≡ selector (entryAt s at) → p ≡ meet arity x r
-    → found ≡ lesser (leastIn hs p (missed (front ++ recordsIn (take n s)))) best
-    → found ≡ lesser (leastIn hs (meet arity x (selector (entryAt s at))) (missed (front ++ recordsIn (take at s)))) best
-entry-part hs s at n front x p r best found k i m f =
+pub row-part : (hs : Headers) (s : List ℕ) (at n : ℕ) (front : List Entry) (x p : Box) (best found : Found) → n ≡ at → p ≡ meet arity x (boxOf s at)
+    → found ≡ lesser (leastIn hs p (missed (front ++ rowsIn (take n s)))) best
+    → found ≡ lesser (leastIn hs (meet arity x (boxOf s at)) (missed (front ++ rowsIn (take at s)))) best
+row-part hs s at n front x p best found k m f =
     f
-    ∙ ap (λ (n : ℕ). lesser (leastIn hs p (missed (front ++ recordsIn (take n s)))) best) k
-    ∙ ap (λ (p : Box). lesser (leastIn hs p (missed (front ++ recordsIn (take at s)))) best) (m ∙ ap (meet arity x) i)
+    ∙ ap (λ (n : ℕ). lesser (leastIn hs p (missed (front ++ rowsIn (take n s)))) best) k
+    ∙ ap (λ (p : Box). lesser (leastIn hs p (missed (front ++ rowsIn (take at s)))) best) m
 
 -- ---- a search's answer
 

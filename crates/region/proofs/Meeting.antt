@@ -1,9 +1,8 @@
 -- How many entries meet a box: no more for a part of it, and fewer for a part outside one of them. This is the number that falls.
 -- Assumes nothing.
-use Prim.Native.Nat.{ℕ, suc, _<_, _≤_, _+_}
+use Prim.Native.Nat.{ℕ, zero, suc, _<_, _≤_, _+_}
 use native.Mathlib.Omega.{arith}
 use mathlib.Core.Path.{_≡_, refl, sym, _∙_, ap}
-use mathlib.Core.Logic.{inl, inr}
 use mathlib.Core.Bool.{Bool, true, false, cond}
 use mathlib.Core.List.{List, [], _∷_}
 use lib.ListN.{length}
@@ -14,7 +13,8 @@ use Rattle.policy.specs.Header.{arity, Box}
 use Rattle.policy.specs.Entry.{selector}
 use Rattle.policy.proofs.Bool.{clash, is-false, and-intro, and-left, and-right}
 use Rattle.policy.proofs.Box.{corner-in, in-proper, meet-is}
-use Rattle.region.specs.Corner.{OneOf, holds, meeting}
+use Rattle.region.specs.Corner.{holds, selectorIn, meeting}
+use Rattle.region.proofs.Members.{first-in, later-in}
 use Rattle.region.proofs.Split.{Part, Outside}
 
 -- two boxes that meet have a row in common: the low corner of their common part
@@ -59,20 +59,23 @@ module _ (p b : Box) (part : Part p b) where
     apart : proper arity (meet arity p s) ≡ false
     apart = is-false (proper arity (meet arity p s)) λ m. clash (shared-right p s m) (out (lows arity (meet arity p s)) (shared-left p s m))
 
-    pub meeting-lt : proper arity (meet arity b s) ≡ true → (es : List Entry) → OneOf s es → meeting es p < meeting es b
-    meeting-lt m [] a = absurd a
-    meeting-lt m (e ∷ es) (inl q) =
+    pub meeting-lt : proper arity (meet arity b s) ≡ true → (es : List Entry) (i : ℕ) → i < length es → s ≡ selectorIn es i → meeting es p < meeting es b
+    meeting-lt m [] i l q = absurd (omega arith)
+    meeting-lt m (e ∷ es) zero l q =
         less (one p e) (one b e) (meeting es p) (meeting es b)
-        (ap (λ (r : Box). cond (proper arity (meet arity p r)) 1 0) (sym q) ∙ ap (λ (t : Bool). cond t 1 0) apart)
-        (ap (λ (r : Box). cond (proper arity (meet arity b r)) 1 0) (sym q) ∙ ap (λ (t : Bool). cond t 1 0) m)
+        (ap (λ (r : Box). cond (proper arity (meet arity p r)) 1 0) (sym (q ∙ first-in e es)) ∙ ap (λ (t : Bool). cond t 1 0) apart)
+        (ap (λ (r : Box). cond (proper arity (meet arity b r)) 1 0) (sym (q ∙ first-in e es)) ∙ ap (λ (t : Bool). cond t 1 0) m)
         (meeting-le es)
       where
         less : (i j m n : ℕ) → i ≡ 0 → j ≡ 1 → m ≤ n → i + m < j + n
         less i j m n p q r = omega arith
-    meeting-lt m (e ∷ es) (inr a) = sum (one p e) (one b e) (meeting es p) (meeting es b) (one-le e) (meeting-lt m es a)
+    meeting-lt m (e ∷ es) (suc i) l q = sum (one p e) (one b e) (meeting es p) (meeting es b) (one-le e) (meeting-lt m es i (down i (length es) l) (q ∙ later-in e es i))
       where
         sum : (i j m n : ℕ) → i ≤ j → m < n → i + m < j + n
         sum i j m n p q = omega arith
+
+        down : (i n : ℕ) → suc i < suc n → i < n
+        down i n l = omega arith
 
 pub meeting-all : (es : List Entry) (b : Box) → meeting es b ≤ length es
 meeting-all [] b = omega arith

@@ -17,7 +17,7 @@ use Rattle.policy.specs.Least.{least, leastIn}
 use Rattle.policy.proofs.Bool.{clash, is-false, and-intro, and-left, and-right, same-truth}
 use Rattle.policy.proofs.Box.{low-le, le-high, within-by, in-first, in-rest, corner-in, above-is}
 use Rattle.policy.proofs.Least.{union}
-use Rattle.region.specs.Pieces.{upTo, atField, Short, Reaches}
+use Rattle.region.specs.Pieces.{upTo, atField, Short}
 
 -- x is past the end of field number f of s
 abbrev past : (k f : ℕ) → Row Range k → Row ℕ k → Bool
@@ -152,19 +152,6 @@ upper-proper (suc k) zero b s o p =
 upper-proper (suc k) (suc f) b s o p =
     and-intro (and-left (leb (b .0 .low) (b .0 .high)) (proper k (b .1)) p)
     (upper-proper k f (b .1) (s .1) o (and-right (leb (b .0 .low) (b .0 .high)) (proper k (b .1)) p))
-
--- a box that holds the low corner of b, and reaches as far in every field, holds b
-pub covers : (k : ℕ) (b s : Row Range k) (x : Row ℕ k) → inside k s (lows k b) ≡ true → Reaches k b s → inside k b x ≡ true → inside k s x ≡ true
-covers zero b s x c r i = refl
-covers (suc k) b s x c r i =
-    and-intro
-    (within-by (s .0) (x .0)
-    (trans (s .0 .low) (b .0 .low) (x .0) (low-le (s .0) (b .0 .low) (in-first k s (lows (suc k) b) c)) (low-le (b .0) (x .0) (in-first k b x i)))
-    (trans (x .0) (b .0 .high) (s .0 .high) (le-high (b .0) (x .0) (in-first k b x i)) (r .0)))
-    (covers k (b .1) (s .1) (x .1) (in-rest k s (lows (suc k) b) c) (r .1) (in-rest k b x i))
-  where
-    trans : (l m n : ℕ) → l ≤ m → m ≤ n → l ≤ n
-    trans l m n p q = omega arith
 
 -- in how many fields s ends before b: each cut leaves fewer
 abbrev one : Bool → ℕ

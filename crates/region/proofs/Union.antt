@@ -1,12 +1,11 @@
 -- The set of headers is a union of boxes: the search of a box goes by its part in each of them. Over any set.
 -- Assumes nothing.
-use Rattle.wire.specs.Format.{recordSize}
 use Prim.Native.Nat.{ℕ, zero, suc, _<_, _≤_, _-_, _+_, _/_, _^_}
 use native.Mathlib.Omega.{arith}
 use mathlib.Core.Path.{_≡_, refl, sym, _∙_, ap, ap₂, subst}
 use mathlib.Core.Bool.{Bool, true, not, _&&_}
 use mathlib.Core.List.{List, [], _∷_, _++_, map, append-nil}
-use lib.ListN.{length, getD, drop, length-append}
+use lib.ListN.{length, getD, drop}
 use lib.Seq.{drop-cons}
 use Rattle.policy.specs.declared.header.Header.{Header}
 use Rattle.policy.specs.declared.header.Found.{Found}
@@ -22,11 +21,11 @@ use Rattle.policy.proofs.Bool.{not-true, and-intro, and-right, or-left, or-righ
 use Rattle.policy.proofs.Box.{within-by, meet-is}
 use Rattle.policy.proofs.Least.{among-fits, agree, min-from, lesser-last}
 use Rattle.policy.proofs.Branch.{crossed-none, over-set}
-use Rattle.wire.proofs.Entries.{length-entries}
-use Rattle.region.specs.Records.{recordsIn}
+use Rattle.region.specs.Rows.{rowSize, rowsIn}
 use Rattle.region.specs.Corner.{Within, meeting}
 use Rattle.region.proofs.Meeting.{meeting-all}
 use Rattle.region.proofs.Fields.{fits-first, fits-rest}
+use Rattle.region.proofs.Members.{length-two}
 
 -- the least over a list that is mapped
 pub min-map : {A B : Type 0} (f : B → Found) (g : A → B) (xs : List A) → minOver f (map g xs) ≡ minOver (λ x. f (g x)) xs
@@ -84,18 +83,19 @@ in-any (b ∷ bs) (suc i) d h l p = or-right (lies b h) (inAny bs h) (in-any bs 
     down : (i n : ℕ) → suc i < suc n → i < n
     down i n l = omega arith
 
-pub part-headers : (hs : Headers) (x d p q : Box) (i : ℕ) → i < length (hs .boxes) → q ≡ getD (hs .boxes) i d → p ≡ meet arity x q → Within hs p
-part-headers hs x d p q i l e g =
-    subst (Within hs) (sym (g ∙ ap (meet arity x) e)) λ h j.
-    in-any (hs .boxes) i d h l
-    (and-right (lies x h) (lies (getD (hs .boxes) i d) h) (sym (meet-is arity x (getD (hs .boxes) i d) (fields h)) ∙ j))
+module _ (hs : Headers) (x d p q : Box) (i : ℕ) where
+  pub part-headers : 0 < i → i ≤ length (hs .boxes) → q ≡ getD (hs .boxes) (i - 1) d → p ≡ meet arity x q → Within hs p
+  part-headers l m e g =
+      subst (Within hs) (sym (g ∙ ap (meet arity x) e)) λ h j.
+      in-any (hs .boxes) (i - 1) d h (less i (length (hs .boxes)) l m)
+      (and-right (lies x h) (lies (getD (hs .boxes) (i - 1) d) h) (sym (meet-is arity x (getD (hs .boxes) (i - 1) d) (fields h)) ∙ j))
+    where
+      less : (i n : ℕ) → 0 < i → i ≤ n → i - 1 < n
+      less i n l m = omega arith
 
--- no more records meet a box than there are
-pub records-few : (a b : List ℕ) (p : Box) → meeting (recordsIn a ++ recordsIn b) p ≤ length a / recordSize + length b / recordSize
-records-few a b p = subst (λ (n : ℕ). meeting (recordsIn a ++ recordsIn b) p ≤ n) len (meeting-all (recordsIn a ++ recordsIn b) p)
-  where
-    len : length (recordsIn a ++ recordsIn b) ≡ length a / recordSize + length b / recordSize
-    len = length-append (recordsIn a) (recordsIn b) ∙ ap₂ _+_ (length-entries a 0 (length a / recordSize)) (length-entries b 0 (length b / recordSize))
+-- no more rows meet a box than there are
+pub rows-few : (a b : List ℕ) (p : Box) → meeting (rowsIn a ++ rowsIn b) p ≤ length a / rowSize + length b / rowSize
+rows-few a b p = subst (λ (n : ℕ). meeting (rowsIn a ++ rowsIn b) p ≤ n) (length-two a b) (meeting-all (rowsIn a ++ rowsIn b) p)
 
 -- ---- the box of every header
 
@@ -119,6 +119,6 @@ least-everywhere hs P = agree hs (λ h. lies everything h && P h) P λ h a. ap (
 pub least-gap : (hs : Headers) (P : Header → Bool) (b : Box) (r : Found) → b ≡ everything → r ≡ lesser (leastIn hs b P) Nothing → r ≡ least hs P
 least-gap hs P b r e f = f ∙ lesser-last (leastIn hs b P) ∙ ap (λ (b : Box). leastIn hs b P) e ∙ least-everywhere hs P
 
--- no records of a second list
+-- no rows of a second list
 pub one-list : (es : List Entry) (x : Box) (hs : Headers) (best r : Found) → r ≡ lesser (leastIn hs x (missed (es ++ []))) best → r ≡ lesser (leastIn hs x (missed es)) best
 one-list es x hs best r e = e ∙ ap (λ (ds : List Entry). lesser (leastIn hs x (missed ds)) best) (append-nil es)

@@ -1,11 +1,11 @@
--- The low corner of a box: which record holds it, and how many records meet the box.
+-- The low corner of a box: which row holds it, and how many rows meet the box.
 use Prim.Native.Nat.{ℕ, zero, suc, _+_, _-_, _*_, _/_, _≤_, _<_}
 use mathlib.Core.Path.{_≡_}
 use mathlib.Core.Logic.{_⊎_}
 use mathlib.Core.Bool.{Bool, true, false, cond, _&&_}
 use mathlib.Core.List.{List, [], _∷_}
 use lib.Dec.{leb}
-use lib.ListN.{length}
+use lib.ListN.{length, getD}
 use Rattle.policy.specs.declared.header.Header.{Header}
 use Rattle.policy.specs.declared.header.Found.{Found}
 use Rattle.policy.specs.declared.header.Found.the-variants.{At, Nothing}
@@ -13,11 +13,10 @@ use Rattle.policy.specs.declared.entry.Entry.{Entry}
 use Rattle.policy.specs.declared.region.Range.{Range}
 use Rattle.policy.specs.Row.{Row}
 use Rattle.policy.specs.Box.{inside, proper, lows, meet}
-use Rattle.policy.specs.Header.{arity, header, before, Box, lies, Headers, among, ranges}
+use Rattle.policy.specs.Header.{arity, header, before, Box, lies, Headers, among}
 use Rattle.policy.specs.Entry.{selector}
 use Rattle.policy.specs.Policy.{missed}
-use Rattle.wire.specs.Format.{recordSize, entryAt, entriesFrom}
-use Rattle.region.specs.Records.{recordsIn}
+use Rattle.region.specs.Rows.{rowSize, boxOf, rowAt, rowsFrom, rowsIn}
 use Rattle.region.specs.declared.pick.Choice.{Choice}
 use Rattle.region.specs.declared.pick.Picked.{Picked}
 use Rattle.region.specs.declared.pick.Picked.the-variants.{Held, Free, Covered}
@@ -35,11 +34,6 @@ Within hs b = (h : Header) → lies b h ≡ true → among hs h ≡ true
 abbrev pub holds : Box → Box → Bool
 holds s b = inside arity s (lows arity b)
 
--- the box is the selector of one of the entries
-abbrev pub OneOf : Box → List Entry → Type 0
-OneOf s [] = ⊥
-OneOf s (e ∷ es) = (s ≡ selector e) ⊎ OneOf s es
-
 -- no range of s ends before that of b
 abbrev pub reaches : (k : ℕ) → Row Range k → Row Range k → Bool
 reaches zero s b = true
@@ -49,24 +43,37 @@ reaches (suc k) s b = leb (b .0 .high) (s .0 .high) && reaches k (s .1) (b .1)
 abbrev pub Covers : List Entry → Box → Type 0
 Covers es b = (h : Header) → lies b h ≡ true → missed es h ≡ false
 
--- a selector of the list that holds the low corner of b; or none does; or none of b is missed
+-- the selector of entry number i
+unfoldable pub selectorIn : List Entry → ℕ → Box
+selectorIn es i = selector (getD es i (rowAt [] 0))
+
+-- the number of an entry whose selector holds the low corner of b; or none does; or none of b is missed
 abbrev pub Picks : List Entry → Box → Picked → Type 0
-Picks es b (Held s) = (holds (ranges s) b ≡ true) × OneOf (ranges s) es
+Picks es b (Held i) = (i < length es) × (holds (selectorIn es i) b ≡ true)
 Picks es b Free = missed es (header (lows arity b)) ≡ true
 Picks es b Covered = Covers es b
 
--- record number i of the slice holds the low corner of b, and all of b if the choice says so
-abbrev pub Chooses : List ℕ → Box → ℕ → Bool → Type 0
-Chooses s b i whole =
-    (i < length s / recordSize)
-    × ((holds (selector (entryAt s (recordSize * i))) b ≡ true) × (whole ≡ true → Covers (recordsIn s) b))
+-- the number picked, and the pick behind n entries more
+abbrev pub numberOf : Picked → ℕ
+numberOf (Held i) = i
+numberOf Free = 0
+numberOf Covered = 0
 
--- of the first n records: the last of the first i holds the numbers x, if i is not 0, and none behind it does
+abbrev pub shifted : ℕ → Picked → Picked
+shifted n (Held i) = Held (n + i)
+shifted n Free = Free
+shifted n Covered = Covered
+
+-- row number i of the slice holds the low corner of b, and the rows all of b if the choice says so
+abbrev pub Chooses : List ℕ → Box → ℕ → Bool → Type 0
+Chooses s b i whole = (i < length s / rowSize) × ((holds (boxOf s (rowSize * i)) b ≡ true) × (whole ≡ true → Covers (rowsIn s) b))
+
+-- of the first n rows: the last of the first i holds the numbers x, if i is not 0, and none behind it does
 abbrev pub HoldsLast : List ℕ → ℕ → Row ℕ arity → ℕ → Type 0
 HoldsLast s n x i =
     (i ≤ n)
-    × ((0 < i → inside arity (selector (entryAt s (recordSize * (i - 1)))) x ≡ true)
-    × (missed (entriesFrom s (recordSize * i) (n - i)) (header x) ≡ true))
+    × ((0 < i → inside arity (boxOf s (rowSize * (i - 1))) x ≡ true)
+    × (missed (rowsFrom s (rowSize * i) (n - i)) (header x) ≡ true))
 
 -- number i is taken, or the old choice stays
 abbrev pub Better : ℕ → Choice → Choice → Type 0

@@ -1,6 +1,6 @@
-pub mod Records
+pub mod Rows
 pub mod Corner
 pub mod Pieces
+pub mod Searched
 pub mod Treated
 pub mod Search
-pub mod ListChecks

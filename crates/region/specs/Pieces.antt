@@ -1,12 +1,14 @@
 -- A box is cut where another ends in one field: the part up to there, and the part above.
-use Prim.Native.Nat.{ℕ, zero, suc, _-_, _<_, _≤_, min}
+use Prim.Native.Nat.{ℕ, zero, suc, _<_, _≤_, min}
 use mathlib.Core.Path.{_≡_}
 use mathlib.Core.Logic.{_⊎_}
+use mathlib.Core.Bool.{true}
 use Rattle.policy.specs.declared.region.Range.{Range}
 use Rattle.policy.specs.Row.{Row}
 use Rattle.policy.specs.Box.{range}
-use Rattle.policy.specs.Header.{arity}
+use Rattle.policy.specs.Header.{arity, Box}
 use Rattle.region.specs.declared.cut.Candidate.{Candidate}
+use Rattle.region.specs.Corner.{reaches}
 
 -- the part of the range b up to the end of s
 abbrev pub upTo : Range → Range → Range
@@ -24,15 +26,10 @@ Short zero f b s = ⊥
 Short (suc k) zero b s = s .0 .high < b .0 .high
 Short (suc k) (suc f) b s = Short k f (b .1) (s .1)
 
--- no field of s ends before that of b
-abbrev pub Reaches : (k : ℕ) → Row Range k → Row Range k → Type 0
-Reaches zero b s = Unit {0}
-Reaches (suc k) b s = (b .0 .high ≤ s .0 .high) × Reaches k (b .1) (s .1)
+-- the number of a field in which s ends before b; or arity, and there is none
+abbrev pub Next : Box → Box → ℕ → Type 0
+Next b s f = ((f < arity) × Short arity f b s) ⊎ ((f ≡ arity) × (reaches arity s b ≡ true))
 
--- of k fields, numbered from m: the number of one in which s ends before b, or their number and there is none
-abbrev pub Next : (k m : ℕ) → Row Range k → Row Range k → ℕ → Type 0
-Next k m b s f = ((m ≤ f) × (f < arity) × Short k (f - m) b s) ⊎ ((f ≡ arity) × Reaches k b s)
-
--- field number f if s ends before b there; else the other candidate, which is a field unless s reaches b's end
-abbrev pub Offered : Candidate → ℕ → Range → Range → Candidate → Type 0
-Offered c f b s r = ((r .field ≡ f) × (s .high < b .high)) ⊎ ((r ≡ c) × ((c .field ≡ arity → ⊥) ⊎ (b .high ≤ s .high)))
+-- field number f if its end comes before a high; else the other candidate, which is a field unless the end does not
+abbrev pub Offered : Candidate → ℕ → ℕ → ℕ → Candidate → Type 0
+Offered c f end high r = ((r .field ≡ f) × (end < high)) ⊎ ((r ≡ c) × ((c .field ≡ arity → ⊥) ⊎ (high ≤ end)))

@@ -1,31 +1,33 @@
-// The low corner of a region, and whether it is worth looking at.
+// The low corner of a box as a header, and whether it is worth looking at. Here alone a header's numbers have names and widths.
+use crate::sides::SIDES;
+use crate::sides::low;
 use policy::header::Found;
 use policy::header::Header;
 use policy::header::is_before;
-use policy::region::Region;
 ghost use mathlib.Core.Path.{_≡_};
 ghost use mathlib.Core.Bool.{true};
 ghost use Rattle.policy.specs.Row.{fits};
 ghost use Rattle.policy.specs.Box.{lows};
-ghost use Rattle.policy.specs.Header.{arity, header, ranges, sizes};
+ghost use Rattle.policy.specs.Header.{arity, header, sizes};
+ghost use Rattle.region.specs.Rows.{boxOf};
 ghost use Rattle.region.specs.Corner.{improves};
 
 // The low corner of b as a header.
-pub(crate) fn low_corner(b: Region) -> Header
-    requires { ⌜ fits arity sizes (lows arity (ranges b)) ≡ true ⌝ }
-    ensures { λ h. ⌜ h ≡ header (lows arity (ranges b)) ⌝ }
+pub fn low_corner(b: &[u32; SIDES]) -> Header
+    requires { ⌜ fits arity sizes (lows arity (boxOf (now b) 0)) ≡ true ⌝ }
+    ensures { λ h. ⌜ h ≡ header (lows arity (boxOf (now (b .entry)) 0)) ⌝ }
 {
     Header {
-        local: b.local.low,
-        remote: b.remote.low,
-        local_port: b.local_port.low as u16,
-        remote_port: b.remote_port.low as u16,
-        protocol: b.protocol.low as u8,
+        local: low(b, 0),
+        remote: low(b, 1),
+        local_port: low(b, 2) as u16,
+        remote_port: low(b, 3) as u16,
+        protocol: low(b, 4) as u8,
     }
 }
 
 // Whether h comes before the finding.
-pub(crate) fn is_improved(h: Header, best: Found) -> bool
+pub fn is_improved(h: Header, best: Found) -> bool
     ensures { λ t. ⌜ t ≡ improves h best ⌝ }
 {
     match best {

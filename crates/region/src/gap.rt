@@ -6,11 +6,12 @@ ghost use mathlib.Core.Path.{_≡_};
 ghost use Rattle.policy.specs.Header.{headers};
 ghost use Rattle.policy.specs.Least.{least};
 ghost use Rattle.policy.specs.Policy.{missed};
-ghost use Rattle.region.specs.Records.{recordsIn};
+ghost use Rattle.region.specs.Rows.{rowsIn};
 
-// The least header that no record matches; nothing if the list is covering.
-pub(crate) fn first_gap(records: &[u8]) -> Found
-    ensures { λ r. ⌜ r ≡ least headers (missed (recordsIn (now (records .entry)))) ⌝ }
+// The least header that no row matches; nothing if the list is covering.
+pub fn first_gap(rows: &[u32]) -> Found
+    ensures { λ r. ⌜ r ≡ least headers (missed (rowsIn (now (rows .entry)))) ⌝ }
 {
-    least_missed(records, whole(), Found::Nothing)
+    let all = whole();
+    least_missed(rows, &all, Found::Nothing)
 }

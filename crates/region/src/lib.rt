@@ -1,6 +1,5 @@
-// The search of a region: the least header of a box that no record of two lists matches, and what is answered by it.
+// The search of a region: the least header of a box that no row of two lists matches, and what is answered by it.
 pub mod corner;
-pub mod covering;
 pub mod cut;
 pub mod gap;
 pub mod headers;
@@ -8,4 +7,6 @@ pub mod least;
 pub mod pick;
 pub mod rank;
 pub mod search;
+pub mod sides;
+pub mod size;
 pub mod treated;

@@ -1,114 +1,118 @@
-// Which field to cut first: the one in which the fewest records cross the cut. It matters to the speed alone.
-use crate::cut::Ranks;
-use policy::region::Range;
-use policy::region::Region;
-use wire::format::RECORD_SIZE;
-use wire::record::read_addresses;
-use wire::record::read_ports;
-use wire::record::read_protocols;
-ghost use Prim.Native.Nat.{_+_, _≤_};
+// Which field to cut first: the one in which the fewest rows cross the cut. It matters to the speed alone.
+use crate::sides::FIELDS;
+use crate::sides::ROW;
+use crate::sides::SIDES;
+use crate::sides::high;
+use crate::sides::high_at;
+use crate::sides::low;
+use crate::sides::low_at;
+ghost use Prim.Native.Nat.{_+_, _≤_, _<_};
 ghost use lib.ListN.{length};
-ghost use Rattle.wire.specs.Format.{recordSize};
+ghost use Rattle.policy.specs.Header.{arity};
+ghost use Rattle.region.specs.Rows.{sides};
 
-// 1 if s ends inside r, and 0 if not.
-fn crosses(r: Range, s: Range) -> u32
-    ensures { λ n. ⌜ n ≤ 1 ⌝ }
+// Whether the row at a place and x have a number of field f in common.
+fn overlaps(s: &[u32], at: usize, x: &[u32; SIDES], f: usize) -> bool
+    requires { ⌜ (at + sides ≤ length (now s)) × (f < arity) ⌝ }
 {
-    if s.high < r.high {
-        if r.low <= s.high {
+    if high_at(s, at, f) < low(x, f) {
+        return false;
+    }
+    low_at(s, at, f) <= high(x, f)
+}
+
+// Whether they do in every field.
+pub fn is_near(s: &[u32], at: usize, x: &[u32; SIDES]) -> bool
+    requires { ⌜ at + sides ≤ length (now s) ⌝ }
+{
+    let mut f: usize = 0;
+    while f < FIELDS {
+        if !overlaps(s, at, x, f) {
+            return false;
+        }
+        f += 1;
+    }
+    true
+}
+
+// 1 if cut ends inside the row at a place in field f, and 0 if not.
+fn crosses(s: &[u32], at: usize, cut: &[u32; SIDES], f: usize) -> u32
+    requires { ⌜ (at + sides ≤ length (now s)) × (f < arity) ⌝ }
+{
+    let end = high(cut, f);
+    if end < high_at(s, at, f) {
+        if low_at(s, at, f) <= end {
             return 1;
         }
     }
     0
 }
 
-// Whether r and s have a number in common.
-fn overlaps(r: Range, s: Range) -> bool {
-    if r.high < s.low {
-        return false;
-    }
-    r.low <= s.high
-}
-
 // The sum of two counts, modulo 2^32.
-fn sum(a: u32, b: u32) -> u32 {
+pub fn sum(a: u32, b: u32) -> u32 {
     ((a as u64 + b as u64) % 4294967296) as u32
 }
 
-// The counts with the cuts that the record at a place crosses, if it meets x.
-fn with_record(s: &[u8], at: usize, x: Region, cut: Region, n: Ranks) -> Ranks
-    requires { ⌜ at + recordSize ≤ length (now s) ⌝ }
+// The counts with the cuts that the row at a place crosses, if it meets x.
+pub fn with_row(
+    s: &[u32],
+    at: usize,
+    x: &[u32; SIDES],
+    cut: &[u32; SIDES],
+    n: [u32; FIELDS],
+) -> [u32; FIELDS]
+    requires { ⌜ at + sides ≤ length (now s) ⌝ }
 {
-    let local = read_addresses(s, at);
-    if !overlaps(local, x.local) {
+    if !is_near(s, at, x) {
         return n;
     }
-    let remote = read_addresses(s, at + 8);
-    if !overlaps(remote, x.remote) {
-        return n;
-    }
-    let local_port = read_ports(s, at + 16);
-    if !overlaps(local_port, x.local_port) {
-        return n;
-    }
-    let remote_port = read_ports(s, at + 20);
-    if !overlaps(remote_port, x.remote_port) {
-        return n;
-    }
-    let protocol = read_protocols(s, at + 24);
-    if !overlaps(protocol, x.protocol) {
-        return n;
-    }
-    Ranks {
-        local: sum(n.local, crosses(local, cut.local)),
-        remote: sum(n.remote, crosses(remote, cut.remote)),
-        local_port: sum(n.local_port, crosses(local_port, cut.local_port)),
-        remote_port: sum(n.remote_port, crosses(remote_port, cut.remote_port)),
-        protocol: sum(n.protocol, crosses(protocol, cut.protocol)),
-    }
-}
-
-// The counts with those of every record of s.
-fn with_records(s: &[u8], x: Region, cut: Region, n: Ranks) -> Ranks {
     let mut ranks = n;
-    let mut i = s.len() / RECORD_SIZE;
-    while 0 < i {
-        i -= 1;
-        ranks = with_record(s, RECORD_SIZE * i, x, cut, ranks);
+    let mut f: usize = 0;
+    while f < FIELDS {
+        ranks[f] = sum(ranks[f], crosses(s, at, cut, f));
+        f += 1;
     }
     ranks
 }
 
-// 1 if s ends before b, and 0 if not.
-fn ends_before(b: Range, s: Range) -> u32
-    ensures { λ n. ⌜ n ≤ 1 ⌝ }
-{
-    if s.high < b.high {
-        return 1;
+// The counts with those of every row of s.
+pub fn with_rows(
+    s: &[u32],
+    x: &[u32; SIDES],
+    cut: &[u32; SIDES],
+    n: [u32; FIELDS],
+) -> [u32; FIELDS] {
+    let mut ranks = n;
+    let mut i = s.len() / ROW;
+    while 0 < i {
+        i -= 1;
+        let more = with_row(s, ROW * i, x, cut, ranks);
+        ranks = more;
     }
-    0
+    ranks
 }
 
-// How many fields of x the record cuts.
-fn cuts(x: Region, cut: Region) -> u32 {
-    ends_before(x.local, cut.local)
-        + ends_before(x.remote, cut.remote)
-        + ends_before(x.local_port, cut.local_port)
-        + ends_before(x.remote_port, cut.remote_port)
-        + ends_before(x.protocol, cut.protocol)
+// Whether cut ends before x in two fields or more.
+pub fn cuts_two(x: &[u32; SIDES], cut: &[u32; SIDES]) -> bool {
+    let mut one = false;
+    let mut f: usize = 0;
+    while f < FIELDS {
+        if high(cut, f) < high(x, f) {
+            if one {
+                return true;
+            }
+            one = true;
+        }
+        f += 1;
+    }
+    false
 }
 
-// For each field, how many records of a and b that meet x go past the end of the record to be cut off. A single cut needs no count.
-pub(crate) fn rank_fields(a: &[u8], b: &[u8], x: Region, cut: Region) -> Ranks {
-    let none = Ranks {
-        local: 0,
-        remote: 0,
-        local_port: 0,
-        remote_port: 0,
-        protocol: 0,
-    };
-    if cuts(x, cut) < 2 {
-        return none;
+// For each field, how many rows of a and b that meet x go past the end of the row to be cut off. A single cut needs no count.
+pub fn rank_fields(a: &[u32], b: &[u32], x: &[u32; SIDES], cut: &[u32; SIDES]) -> [u32; FIELDS] {
+    let none = [0u32; FIELDS];
+    if cuts_two(x, cut) {
+        return with_rows(b, x, cut, with_rows(a, x, cut, none));
     }
-    with_records(b, x, cut, with_records(a, x, cut, none))
+    none
 }

@@ -1,24 +1,19 @@
 // The search of a region: the least header of a box that a file's list treats in a wanted way.
 use crate::least::least_missed;
+use crate::sides::ROW;
+use crate::sides::SIDES;
+use crate::sides::part_in_row;
 use crate::treated::Sets;
 use crate::treated::least_treated;
 use policy::header::Found;
 use policy::header::Header;
 use policy::refusal::Refusal;
-use policy::region::Region;
-use policy::region::inside_part;
-use wire::check::Checked;
-use wire::check::check_file;
-use wire::format::HEAD_SIZE;
-use wire::format::LIST_LIMIT;
-use wire::format::RECORD_SIZE;
-use wire::record::read_selector;
 ghost use mathlib.Core.Path.{_≡_};
-ghost use Rattle.policy.specs.Header.{ranges, headers};
+ghost use Rattle.policy.specs.Header.{headers};
 ghost use Rattle.policy.specs.Least.{leastIn};
 ghost use Rattle.region.specs.declared.search.Want.the-variants.{CaughtBy};
-ghost use Rattle.region.specs.Records.{recordsIn};
-ghost use Rattle.region.specs.Search.{treated, foundAnswer, searchOf, searched};
+ghost use Rattle.region.specs.Rows.{boxOf, rowsIn};
+ghost use Rattle.region.specs.Search.{treated, foundAnswer, searched};
 
 // What is looked for.
 pub enum Want {
@@ -37,32 +32,29 @@ pub enum Searched {
 }
 
 // The least header of b that entry number k catches.
-fn least_caught_by(records: &[u8], k: usize, b: Region) -> Found
-    ensures { λ r. ⌜ r ≡ leastIn headers (ranges b) (treated (CaughtBy k) (recordsIn (now (records .entry)))) ⌝ }
+fn least_caught_by(rows: &[u32], k: usize, b: &[u32; SIDES]) -> Found
+    ensures { λ r. ⌜ r ≡ leastIn headers (boxOf (now (b .entry)) 0) (treated (CaughtBy k) (rowsIn (now (rows .entry)))) ⌝ }
 {
-    if k < records.len() / RECORD_SIZE {
-        let at = RECORD_SIZE * k;
-        return least_missed(
-            &records[0..at],
-            inside_part(b, read_selector(records, at)),
-            Found::Nothing,
-        );
+    if k < rows.len() / ROW {
+        let at = ROW * k;
+        let part = part_in_row(rows, at, b);
+        return least_missed(&rows[0..at], &part, Found::Nothing);
     }
     Found::Nothing
 }
 
-// The least header of b that the list of records treats as wanted.
-pub(crate) fn search_records(records: &[u8], b: Region, want: Want) -> Found
-    ensures { λ r. ⌜ r ≡ leastIn headers (ranges b) (treated want (recordsIn (now (records .entry)))) ⌝ }
+// The least header of b that the list treats as wanted.
+pub(crate) fn search_rows(rows: &[u32], b: &[u32; SIDES], want: Want) -> Found
+    ensures { λ r. ⌜ r ≡ leastIn headers (boxOf (now (b .entry)) 0) (treated want (rowsIn (now (rows .entry)))) ⌝ }
 {
     match want {
-        Want::Uncaught => least_missed(records, b, Found::Nothing),
-        Want::CaughtBy(k) => least_caught_by(records, k, b),
+        Want::Uncaught => least_missed(rows, b, Found::Nothing),
+        Want::CaughtBy(k) => least_caught_by(rows, k, b),
         Want::Differs(s) => least_treated(
-            &records[0..0],
-            records,
+            &rows[0..0],
+            rows,
             b,
-            Sets::Other(s),
+            Sets::Other(s as u32),
             true,
             Found::Nothing,
         ),
@@ -76,15 +68,5 @@ fn answer(f: Found) -> Searched
     match f {
         Found::At(h) => Searched::At(h),
         Found::Nothing => Searched::Nothing,
-    }
-}
-
-// Checks 1 to 4, and then the least header of b that the file's list treats as wanted.
-pub fn search_file(file: &[u8], b: Region, want: Want) -> Searched
-    ensures { λ r. ⌜ searched r ≡ searchOf (now (file .entry)) (ranges b) want ⌝ }
-{
-    match check_file(file, LIST_LIMIT) {
-        Checked::Refused(r) => Searched::Refused(r),
-        Checked::Good(n) => answer(search_records(&file[HEAD_SIZE..], b, want)),
     }
 }

@@ -1,42 +1,39 @@
-// The least header of a region that a list allows a wanted action set.
+// The least header of a box that a list allows a wanted action set.
 use crate::corner::is_improved;
 use crate::least::least_open;
+use crate::sides::ROW;
+use crate::sides::SIDES;
+use crate::sides::actions_at;
+use crate::sides::meets_row;
+use crate::sides::part_in_row;
 use policy::actions::is_subset;
 use policy::header::Found;
-use policy::region::Region;
-use policy::region::inside_part;
-use policy::region::is_proper;
 use std::num::wrapping_add_u32;
-use wire::format::RECORD_SIZE;
-use wire::record::read_actions;
-use wire::record::read_selector;
 ghost use mathlib.Core.Path.{_≡_};
 ghost use mathlib.Core.Bool.{true, _&&_};
 ghost use Prim.Native.Nat.{_+_, _≤_};
 ghost use lib.ListN.{length, take};
 ghost use mathlib.Core.List.{_++_};
 ghost use Rattle.policy.specs.Box.{meet, proper};
-ghost use Rattle.policy.specs.Header.{arity, ranges, headers};
-ghost use Rattle.policy.specs.Entry.{selector};
-ghost use Rattle.wire.specs.Format.{recordSize, entryAt};
+ghost use Rattle.policy.specs.Header.{arity, headers};
 ghost use Rattle.policy.specs.Found.{lesser};
 ghost use Rattle.policy.specs.Least.{leastIn};
 ghost use Rattle.policy.specs.Policy.{allowed, missed};
-ghost use Rattle.region.specs.Records.{recordsIn};
+ghost use Rattle.region.specs.Rows.{rowSize, boxOf, rowAt, rowsIn};
 ghost use Rattle.region.specs.Treated.{wanted, judged};
 
 // The action sets that are wanted.
 pub enum Sets {
     // The set alone.
-    Same(u16),
+    Same(u32),
     // Every other set.
-    Other(u16),
+    Other(u32),
     // Those that lack an action of the set.
-    Lacking(u16),
+    Lacking(u32),
 }
 
 // Whether the set a is wanted.
-pub(crate) fn is_wanted(q: Sets, a: u16) -> bool
+pub(crate) fn is_wanted(q: Sets, a: u32) -> bool
     ensures { λ t. ⌜ t ≡ wanted q a ⌝ }
 {
     match q {
@@ -46,9 +43,9 @@ pub(crate) fn is_wanted(q: Sets, a: u16) -> bool
     }
 }
 
-// Whether the records of a and of b leave no header of x that comes before best.
-pub(crate) fn is_exhausted(a: &[u8], b: &[u8], x: Region, best: Found) -> bool
-    ensures { λ t. ⌜ (t ≡ true → lesser (leastIn headers (ranges x) (missed (recordsIn (now (a .entry)) ++ recordsIn (now (b .entry))))) best ≡ best) ⌝ }
+// Whether the rows of a and of b leave no header of x that comes before best.
+pub(crate) fn is_exhausted(a: &[u32], b: &[u32], x: &[u32; SIDES], best: Found) -> bool
+    ensures { λ t. ⌜ (t ≡ true → lesser (leastIn headers (boxOf (now (x .entry)) 0) (missed (rowsIn (now (a .entry)) ++ rowsIn (now (b .entry))))) best ≡ best) ⌝ }
 {
     match least_open(a, b, x, best) {
         Found::Nothing => true,
@@ -57,8 +54,8 @@ pub(crate) fn is_exhausted(a: &[u8], b: &[u8], x: Region, best: Found) -> bool
 }
 
 // The same, asked after 4, 8, 16, .. searches. How often it is asked matters to the speed alone.
-fn is_done(a: &[u8], b: &[u8], searches: u32, x: Region, best: Found) -> bool
-    ensures { λ t. ⌜ (t ≡ true → lesser (leastIn headers (ranges x) (missed (recordsIn (now (a .entry)) ++ recordsIn (now (b .entry))))) best ≡ best) ⌝ }
+fn is_done(a: &[u32], b: &[u32], searches: u32, x: &[u32; SIDES], best: Found) -> bool
+    ensures { λ t. ⌜ (t ≡ true → lesser (leastIn headers (boxOf (now (x .entry)) 0) (missed (rowsIn (now (a .entry)) ++ rowsIn (now (b .entry))))) best ≡ best) ⌝ }
 {
     if 4 <= searches {
         if 128 % searches == 0 {
@@ -68,78 +65,74 @@ fn is_done(a: &[u8], b: &[u8], searches: u32, x: Region, best: Found) -> bool
     false
 }
 
-// Whether the record at a place has a wanted set and matches some of x. Most do not, and need no search.
-fn has_wanted_part(records: &[u8], at: usize, x: Region, q: Sets) -> bool
-    requires { ⌜ at + recordSize ≤ length (now records) ⌝ }
-    ensures { λ t. ⌜ t ≡ (wanted q (entryAt (now (records .entry)) at .actions) && proper arity (meet arity (ranges x) (selector (entryAt (now (records .entry)) at)))) ⌝ }
+// Whether the row at a place has a wanted set and matches some of x. Most do not, and need no search.
+fn has_wanted_part(rows: &[u32], at: usize, x: &[u32; SIDES], q: Sets) -> bool
+    requires { ⌜ at + rowSize ≤ length (now rows) ⌝ }
+    ensures { λ t. ⌜ t ≡ (wanted q (rowAt (now (rows .entry)) at .actions) && proper arity (meet arity (boxOf (now (x .entry)) 0) (boxOf (now (rows .entry)) at))) ⌝ }
 {
-    if !is_wanted(q, read_actions(records, at)) {
+    if !is_wanted(q, actions_at(rows, at)) {
         return false;
     }
-    is_proper(inside_part(x, read_selector(records, at)))
+    meets_row(rows, at, x)
 }
 
-// The lesser of best and the least header of x that is missed by front and by the records before the one at a place, and that this one matches.
-fn with_entry(front: &[u8], records: &[u8], at: usize, x: Region, best: Found) -> Found
-    requires { ⌜ at + recordSize ≤ length (now records) ⌝ }
-    ensures { λ r. ⌜ r ≡ lesser (leastIn headers (meet arity (ranges x) (selector (entryAt (now (records .entry)) at))) (missed (recordsIn (now (front .entry)) ++ recordsIn (take at (now (records .entry)))))) best ⌝ }
+// The lesser of best and the least header of x that is missed by front and by the rows before the one at a place, and that this one matches.
+fn with_entry(front: &[u32], rows: &[u32], at: usize, x: &[u32; SIDES], best: Found) -> Found
+    requires { ⌜ at + rowSize ≤ length (now rows) ⌝ }
+    ensures { λ r. ⌜ r ≡ lesser (leastIn headers (meet arity (boxOf (now (x .entry)) 0) (boxOf (now (rows .entry)) at)) (missed (rowsIn (now (front .entry)) ++ rowsIn (take at (now (rows .entry)))))) best ⌝ }
 {
-    least_open(
-        front,
-        &records[0..at],
-        inside_part(x, read_selector(records, at)),
-        best,
-    )
+    let part = part_in_row(rows, at, x);
+    least_open(front, &rows[0..at], &part, best)
 }
 
-// The lesser of best and the least header of x that no record of front matches, and that the list of records allows a wanted set;
+// The lesser of best and the least header of x that no row of front matches, and that the list of rows allows a wanted set;
 // or does not catch, if that is wanted too.
 pub fn least_treated(
-    front: &[u8],
-    records: &[u8],
-    x: Region,
+    front: &[u32],
+    rows: &[u32],
+    x: &[u32; SIDES],
     q: Sets,
     uncaught: bool,
     best: Found,
 ) -> Found
-    ensures { λ r. ⌜ r ≡ lesser (leastIn headers (ranges x) (λ h. missed (recordsIn (now (front .entry))) h && judged q uncaught (allowed (recordsIn (now (records .entry))) h))) best ⌝ }
+    ensures { λ r. ⌜ r ≡ lesser (leastIn headers (boxOf (now (x .entry)) 0) (λ h. missed (rowsIn (now (front .entry))) h && judged q uncaught (allowed (rowsIn (now (rows .entry))) h))) best ⌝ }
 {
-    let n = records.len() / RECORD_SIZE;
+    let n = rows.len() / ROW;
     let mut found = best;
     let mut searches: u32 = 0;
     let mut i: usize = 0;
     while i < n {
-        let at = RECORD_SIZE * i;
-        if !has_wanted_part(records, at, x, q) {
+        let at = ROW * i;
+        if !has_wanted_part(rows, at, x, q) {
             i += 1;
             continue;
         }
-        if is_done(front, &records[0..at], searches, x, found) {
+        if is_done(front, &rows[0..at], searches, x, found) {
             return found;
         }
-        found = with_entry(front, records, at, x, found);
+        found = with_entry(front, rows, at, x, found);
         searches = wrapping_add_u32(searches, 1);
         i += 1;
     }
     if uncaught {
-        return least_open(front, records, x, found);
+        return least_open(front, rows, x, found);
     }
     found
 }
 
-// The same, if front leaves anything of x that comes before best. For a box that is likely to be caught whole by the records of front.
+// The same, if front leaves anything of x that comes before best. For a box that is likely to be caught whole by the rows of front.
 pub fn least_treated_behind(
-    front: &[u8],
-    records: &[u8],
-    x: Region,
+    front: &[u32],
+    rows: &[u32],
+    x: &[u32; SIDES],
     q: Sets,
     uncaught: bool,
     best: Found,
 ) -> Found
-    ensures { λ r. ⌜ r ≡ lesser (leastIn headers (ranges x) (λ h. missed (recordsIn (now (front .entry))) h && judged q uncaught (allowed (recordsIn (now (records .entry))) h))) best ⌝ }
+    ensures { λ r. ⌜ r ≡ lesser (leastIn headers (boxOf (now (x .entry)) 0) (λ h. missed (rowsIn (now (front .entry))) h && judged q uncaught (allowed (rowsIn (now (rows .entry))) h))) best ⌝ }
 {
-    if is_exhausted(front, &records[0..0], x, best) {
+    if is_exhausted(front, &rows[0..0], x, best) {
         return best;
     }
-    least_treated(front, records, x, q, uncaught, best)
+    least_treated(front, rows, x, q, uncaught, best)
 }

@@ -1,6 +1,6 @@
 -- A header comes before a finding as its two cases say.
-use borrow.Author.Needs.{needs}
 use Rattle.region.proofs.Opening.{improves-at}
+use borrow.Author.Needs.{needs}
 use Rattle.region.proofs.corner.is_improved.Statement.{statement}
 use Rattle.region.proofs.corner.is_improved.Tie as tie
 

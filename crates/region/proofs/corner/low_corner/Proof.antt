@@ -1,23 +1,46 @@
 -- The corner fits the widths, so that its casts lose nothing.
-use native.Mathlib.Omega.{arith}
+use Rattle.region.proofs.Opening.{local-port-fits, remote-port-fits, protocol-fits, corner-is}
 use borrow.Author.Needs.{needs}
-use Rattle.policy.specs.Box.{lows}
-use Rattle.policy.specs.Header.{ranges, sizes}
-use Rattle.region.proofs.Fields.{fits-first, fits-rest}
 use Rattle.region.proofs.corner.low_corner.Statement.{statement}
 use Rattle.region.proofs.corner.low_corner.Tie as tie
 
-cast-t2 : tie.Need-cast-t2
-cast-t2 c = omega (arith, fits-first 2 (sizes .1 .1) ((lows 5 (ranges (c .before .args .b))) .1 .1) (fits-rest 3 (sizes .1) ((lows 5 (ranges (c .before .args .b))) .1) (fits-rest 4 sizes (lows 5 (ranges (c .before .args .b))) (c .before .pre))))
+low-requires : tie.Need-low-requires
+low-requires c κs = search needs
 
-cast-t3 : tie.Need-cast-t3
-cast-t3 c = omega (arith, fits-first 1 (sizes .1 .1 .1) ((lows 5 (ranges (c .before .before .args .b))) .1 .1 .1) (fits-rest 2 (sizes .1 .1) ((lows 5 (ranges (c .before .before .args .b))) .1 .1) (fits-rest 3 (sizes .1) ((lows 5 (ranges (c .before .before .args .b))) .1) (fits-rest 4 sizes (lows 5 (ranges (c .before .before .args .b))) (c .before .before .pre)))))
+low-requires-2 : tie.Need-low-requires-2
+low-requires-2 c κs = search needs
 
-cast-t4 : tie.Need-cast-t4
-cast-t4 c = omega (arith, fits-first 0 (sizes .1 .1 .1 .1) ((lows 5 (ranges (c .before .before .before .args .b))) .1 .1 .1 .1) (fits-rest 1 (sizes .1 .1 .1) ((lows 5 (ranges (c .before .before .before .args .b))) .1 .1 .1) (fits-rest 2 (sizes .1 .1) ((lows 5 (ranges (c .before .before .before .args .b))) .1 .1) (fits-rest 3 (sizes .1) ((lows 5 (ranges (c .before .before .before .args .b))) .1) (fits-rest 4 sizes (lows 5 (ranges (c .before .before .before .args .b))) (c .before .before .before .pre))))))
+low-requires-3 : tie.Need-low-requires-3
+low-requires-3 c κs = search needs
+
+cast-t5 : tie.Need-cast-t5
+cast-t5 c = search local-port-fits
+
+low-requires-4 : tie.Need-low-requires-4
+low-requires-4 c κs = search needs
+
+cast-t7 : tie.Need-cast-t7
+cast-t7 c = search remote-port-fits
+
+low-requires-5 : tie.Need-low-requires-5
+low-requires-5 c κs = search needs
+
+cast-t9 : tie.Need-cast-t9
+cast-t9 c = search protocol-fits
 
 returns : tie.Need-returns
-returns c = search needs
+returns c = search corner-is
 
 pub low-corner-spec : {M : Type 1} → statement M
-low-corner-spec = tie.close (tie.spec cast-t2 cast-t3 cast-t4 returns)
+low-corner-spec =
+    tie.close
+    (tie.spec
+    low-requires
+    low-requires-2
+    low-requires-3
+    cast-t5
+    low-requires-4
+    cast-t7
+    low-requires-5
+    cast-t9
+    returns)

@@ -1,38 +1,61 @@
--- From the last field to the first, each is offered to what the later ones left.
-use native.Mathlib.Omega.{arith}
-use mathlib.Core.Logic.{inr}
-use mathlib.Core.Path.{refl}
+-- From the last field down: the candidate is one in which s ends before b, if there is any from f on.
 use borrow.Author.Needs.{needs}
-use Rattle.policy.specs.Header.{ranges}
-use Rattle.region.proofs.Fields.{next-offered}
+use native.Mathlib.Omega.{arith}
+use Prim.Native.Nat.{_≤_, _-_}
+use Rattle.policy.specs.Header.{arity}
+use Rattle.region.proofs.Fields.{NextFrom, next-none, next-more, next-is}
 use Rattle.region.proofs.cut.next_field.Statement.{statement}
 use Rattle.region.proofs.cut.next_field.Tie as tie
 
-offer-field-requires : tie.Need-offer-field-requires
+abbrev Inv-loop : tie.InvT-loop
+Inv-loop b s ranks best₀ f₀ best f = (f ≤ arity) × NextFrom b s f (best .field)
+
+abbrev μ-loop : tie.MeasureT-loop
+μ-loop b s ranks best₀ f₀ best f = f
+
+loop-holds : tie.Need-loop-holds Inv-loop μ-loop
+loop-holds c = (omega arith, search next-none)
+
+sub-f : tie.Need-sub-f Inv-loop μ-loop
+sub-f c = omega arith
+
+mul-offer-field : tie.Need-mul-offer-field Inv-loop μ-loop
+mul-offer-field c = search needs
+
+element-copy-out-offer-field : tie.Need-element-copy-out-offer-field Inv-loop μ-loop
+element-copy-out-offer-field c = search needs
+
+high-requires : tie.Need-high-requires Inv-loop μ-loop
+high-requires c κs = search needs
+
+high-requires-2 : tie.Need-high-requires-2 Inv-loop μ-loop
+high-requires-2 c κs = search needs
+
+offer-field-requires : tie.Need-offer-field-requires Inv-loop μ-loop
 offer-field-requires c κs = search needs
 
-offer-field-requires-2 : tie.Need-offer-field-requires-2
-offer-field-requires-2 c κs = search needs
+loop-less : tie.Need-loop-less Inv-loop μ-loop
+loop-less c = omega arith
 
-offer-field-requires-3 : tie.Need-offer-field-requires-3
-offer-field-requires-3 c κs = search needs
+loop-again : tie.Need-loop-again Inv-loop μ-loop
+loop-again c = (omega arith, search next-more)
 
-offer-field-requires-4 : tie.Need-offer-field-requires-4
-offer-field-requires-4 c κs = search needs
-
-offer-field-requires-5 : tie.Need-offer-field-requires-5
-offer-field-requires-5 c κs = search needs
-
-returns : tie.Need-returns
-returns c = next-offered 4 0 ((ranges (c .before .before .before .before .before .args .b))) ((ranges (c .before .before .before .before .before .args .s))) (c .before .offer-field4 .result) (c .offer-field5 .result) (omega arith) (next-offered 3 1 ((ranges (c .before .before .before .before .before .args .b)) .1) ((ranges (c .before .before .before .before .before .args .s)) .1) (c .before .before .offer-field3 .result) (c .before .offer-field4 .result) (omega arith) (next-offered 2 2 ((ranges (c .before .before .before .before .before .args .b)) .1 .1) ((ranges (c .before .before .before .before .before .args .s)) .1 .1) (c .before .before .before .offer-field2 .result) (c .before .before .offer-field3 .result) (omega arith) (next-offered 1 3 ((ranges (c .before .before .before .before .before .args .b)) .1 .1 .1) ((ranges (c .before .before .before .before .before .args .s)) .1 .1 .1) (c .before .before .before .before .offer-field .result) (c .before .before .before .offer-field2 .result) (omega arith) (next-offered 0 4 ((ranges (c .before .before .before .before .before .args .b)) .1 .1 .1 .1) ((ranges (c .before .before .before .before .before .args .s)) .1 .1 .1 .1) (record { field = 5; rank = 0 }) (c .before .before .before .before .offer-field .result) (omega arith) (inr (refl, tt)) (c .before .before .before .before .offer-field .ensures)) (c .before .before .before .offer-field2 .ensures)) (c .before .before .offer-field3 .ensures)) (c .before .offer-field4 .ensures)) (c .offer-field5 .ensures)
+returns : tie.Need-returns Inv-loop μ-loop
+returns c = search next-is
 
 pub next-field-spec : {M : Type 1} → statement M
 next-field-spec =
     tie.close
     (tie.spec
+    Inv-loop
+    μ-loop
+    loop-holds
+    sub-f
+    mul-offer-field
+    element-copy-out-offer-field
+    high-requires
+    high-requires-2
     offer-field-requires
-    offer-field-requires-2
-    offer-field-requires-3
-    offer-field-requires-4
-    offer-field-requires-5
+    loop-less
+    loop-again
     returns)

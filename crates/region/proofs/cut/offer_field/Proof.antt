@@ -1,8 +1,8 @@
--- Each answer says what was tested.
-use native.Mathlib.Omega.{arith}
-use mathlib.Core.Logic.{inl, inr}
-use mathlib.Core.Path.{refl}
+-- The field is taken where its end comes before the high; else the other stays.
 use borrow.Author.Needs.{needs}
+use native.Mathlib.Omega.{arith}
+use mathlib.Core.Path.{refl}
+use mathlib.Core.Logic.{inl, inr}
 use Rattle.region.proofs.cut.offer_field.Statement.{statement}
 use Rattle.region.proofs.cut.offer_field.Tie as tie
 

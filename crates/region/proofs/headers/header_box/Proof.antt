@@ -1,6 +1,6 @@
 -- The set has one box.
-use borrow.Author.Needs.{needs}
 use Rattle.region.proofs.Fields.{only-box}
+use borrow.Author.Needs.{needs}
 use Rattle.region.proofs.headers.header_box.Statement.{statement}
 use Rattle.region.proofs.headers.header_box.Tie as tie
 

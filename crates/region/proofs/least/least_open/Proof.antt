@@ -4,17 +4,18 @@ use native.Mathlib.Omega.{arith}
 use mathlib.Core.List.{_++_}
 use mathlib.Core.Path.{refl, sym, _∙_}
 use lib.ListN.{length}
-use borrow.Author.Needs.{needs}
 use Rattle.policy.proofs.Bool.{not-false}
+use borrow.Author.Needs.{needs}
 use Rattle.policy.specs.Policy.{missed}
-use Rattle.policy.specs.Header.{headers, ranges, everything}
-use Rattle.region.specs.Records.{recordsIn}
-use Rattle.region.proofs.Union.{SoFar, set-again, set-crossed, set-all, part-headers, records-few}
+use Rattle.policy.specs.Header.{headers}
+use Rattle.region.specs.Rows.{boxOf, rowsIn}
+use Rattle.region.proofs.Union.{SoFar, set-again, set-crossed, set-all, part-headers, rows-few}
 use Rattle.region.proofs.least.least_open.Statement.{statement}
 use Rattle.region.proofs.least.least_open.Tie as tie
 
 abbrev Inv-loop : tie.InvT-loop
-Inv-loop a b x left found₀ i₀ found i = (i ≤ length (headers .boxes)) × SoFar headers (missed (recordsIn a ++ recordsIn b)) (ranges x) found₀ i found
+Inv-loop a b x left found₀ i₀ found i =
+    (i ≤ length (headers .boxes)) × SoFar headers (missed (rowsIn a ++ rowsIn b)) (boxOf x 0) found₀ i found
 
 abbrev μ-loop : tie.MeasureT-loop
 μ-loop a b x left found₀ i₀ found i = i
@@ -31,8 +32,11 @@ sub-i c = omega arith
 header-box-requires : tie.Need-header-box-requires Inv-loop μ-loop
 header-box-requires c κs = omega arith
 
-inside-part-requires : tie.Need-inside-part-requires Inv-loop μ-loop
-inside-part-requires c κs = search needs
+slice-aggregate-part-in-row : tie.Need-slice-aggregate-part-in-row Inv-loop μ-loop
+slice-aggregate-part-in-row c = search needs
+
+part-in-row-requires : tie.Need-part-in-row-requires Inv-loop μ-loop
+part-in-row-requires c κs = search needs
 
 is-proper-requires : tie.Need-is-proper-requires Inv-loop μ-loop
 is-proper-requires c κs = search needs
@@ -44,10 +48,7 @@ loop-again : tie.Need-loop-again Inv-loop μ-loop
 loop-again c = (omega arith, search set-crossed)
 
 least-in-part-requires : tie.Need-least-in-part-requires Inv-loop μ-loop
-least-in-part-requires c κs =
-    let a = c .before .before .before .before .before .before .before .before .args in
-    let i = c .before .before .before .before .before .loop .i - 1 in
-    (sym (c .before .is-proper .ensures) ∙ not-false (c .if1 .left), (part-headers headers (ranges (a .x)) everything (ranges (c .before .before .inside-part .result)) (ranges (c .before .before .before .header-box .result)) i (omega arith) (c .before .before .before .header-box .ensures) (c .before .before .inside-part .ensures), search records-few))
+least-in-part-requires c κs = (sym (c .before .before .is-proper .ensures) ∙ not-false (c .before .if1 .left), (search part-headers, search rows-few))
 
 loop-less-2 : tie.Need-loop-less-2 Inv-loop μ-loop
 loop-less-2 c = omega arith
@@ -68,7 +69,8 @@ least-open-spec =
     loop-holds
     sub-i
     header-box-requires
-    inside-part-requires
+    slice-aggregate-part-in-row
+    part-in-row-requires
     is-proper-requires
     loop-less
     loop-again

@@ -1,13 +1,12 @@
--- From one record that holds the corner to the one before it; the best so far is always a choice.
-use Prim.Native.Nat.{_≤_, _<_, _-_, _*_, _/_}
+-- From one row that holds the corner to the one before it; the best so far is always a choice.
 use native.Mathlib.Omega.{arith}
+use Prim.Native.Nat.{_≤_, _<_, _-_, _*_, _/_}
 use mathlib.Core.Path.{_≡_}
 use mathlib.Core.Bool.{true}
 use lib.ListN.{length}
 use Rattle.policy.specs.Box.{lows}
-use Rattle.policy.specs.Header.{arity, ranges}
-use Rattle.policy.specs.Entry.{selector}
-use Rattle.wire.specs.Format.{recordSize, entryAt}
+use Rattle.policy.specs.Header.{arity}
+use Rattle.region.specs.Rows.{rowSize, boxOf}
 use Rattle.region.specs.Corner.{holds, HoldsLast, Chooses}
 use Rattle.region.proofs.Choosing.{choose-first, choose-better}
 use Rattle.region.proofs.pick.choose.Statement.{statement}
@@ -15,9 +14,9 @@ use Rattle.region.proofs.pick.choose.Tie as tie
 
 abbrev Inv-loop : tie.InvT-loop
 Inv-loop s first next b enough best₀ i₀ k₀ best i k =
-    (i ≤ length s / recordSize)
-    × ((0 < i → holds (selector (entryAt s (recordSize * (i - 1)))) (ranges b) ≡ true)
-    × (HoldsLast s (i - 1) (lows arity (ranges b)) k × Chooses s (ranges b) (best .number) (best .covers)))
+    (i ≤ length s / rowSize)
+    × ((0 < i → holds (boxOf s (rowSize * (i - 1))) (boxOf b 0) ≡ true)
+    × (HoldsLast s (i - 1) (lows arity (boxOf b 0)) k × Chooses s (boxOf b 0) (best .number) (best .covers)))
 
 abbrev μ-loop : tie.MeasureT-loop
 μ-loop s first next b enough best₀ i₀ k₀ best i k = i
@@ -29,7 +28,7 @@ loop-holds : tie.Need-loop-holds Inv-loop μ-loop
 loop-holds c =
     let a = c .before .args in
     let h = c .before .pre in
-    (h .1 .0 .0, (h .1 .0 .1 .0, (h .1 .1, choose-first (a .s .now) (ranges (a .b)) (a .first) (h .1 .0 .0) (h .1 .0 .1 .0) (h .0))))
+    (h .1 .0 .0, (h .1 .0 .1 .0, (h .1 .1, choose-first (a .s .now) (boxOf (a .b .now) 0) (a .first) (h .1 .0 .0) (h .1 .0 .1 .0) (h .0))))
 
 sub-better : tie.Need-sub-better Inv-loop μ-loop
 sub-better c = omega arith
@@ -41,7 +40,7 @@ judged-requires : tie.Need-judged-requires Inv-loop μ-loop
 judged-requires c κs =
     let a = c .before .before .before .before .before .before .args in
     let l = c .before .before .before .before .loop in
-    choose-better (a .s .now) (ranges (a .b)) (l .i) (l .inv .0) (l .inv .1 .0) (c .before .before .before .loop-test .taken) (l .best) _ (l .inv .1 .1 .1) (c .before .before .better .ensures)
+    choose-better (a .s .now) (boxOf (a .b .now) 0) (l .i) (l .inv .0) (l .inv .1 .0) (c .before .before .before .loop-test .taken) (l .best) _ (l .inv .1 .1 .1) (c .before .before .better .ensures)
 
 returns : tie.Need-returns Inv-loop μ-loop
 returns c = c .judged .ensures
@@ -56,7 +55,7 @@ loop-again : tie.Need-loop-again Inv-loop μ-loop
 loop-again c =
     let a = c .before .before .before .before .before .before .before .args in
     let l = c .before .before .before .before .before .loop in
-    (omega (arith, l .inv .1 .1 .0 .0), (l .inv .1 .1 .0 .1 .0, (c .up-to-next .ensures, choose-better (a .s .now) (ranges (a .b)) (l .i) (l .inv .0) (l .inv .1 .0) (c .before .before .before .before .loop-test .taken) (l .best) _ (l .inv .1 .1 .1) (c .before .before .before .better .ensures))))
+    (omega (arith, l .inv .1 .1 .0 .0), (l .inv .1 .1 .0 .1 .0, (c .up-to-next .ensures, choose-better (a .s .now) (boxOf (a .b .now) 0) (l .i) (l .inv .0) (l .inv .1 .0) (c .before .before .before .before .loop-test .taken) (l .best) _ (l .inv .1 .1 .1) (c .before .before .before .better .ensures))))
 
 returns-2 : tie.Need-returns-2 Inv-loop μ-loop
 returns-2 c = c .before .loop .inv .1 .1 .1

@@ -1,20 +1,17 @@
--- The record holds the low corner, and is asked whether it reaches every end.
-use Rattle.policy.specs.Header.{ranges}
+-- The row holds the low corner, and is asked whether it reaches every end.
 use Rattle.region.proofs.Choosing.{choose-judged}
 use borrow.Author.Needs.{needs}
 use Rattle.region.proofs.pick.judged.Statement.{statement}
 use Rattle.region.proofs.pick.judged.Tie as tie
 
-mul-record-reaches : tie.Need-mul-record-reaches
-mul-record-reaches c = search needs
+mul-row-reaches : tie.Need-mul-row-reaches
+mul-row-reaches c = search needs
 
-record-reaches-requires : tie.Need-record-reaches-requires
-record-reaches-requires c κs = search needs
+row-reaches-requires : tie.Need-row-reaches-requires
+row-reaches-requires c κs = search needs
 
 returns : tie.Need-returns
-returns c =
-    let g = c .before .before .before in
-    choose-judged (g .args .s .now) (ranges (g .args .b)) (g .args .c .number) (g .args .c .covers) _ (g .pre) (c .record-reaches .ensures)
+returns c = search choose-judged
 
 pub judged-spec : {M : Type 1} → statement M
-judged-spec = tie.close (tie.spec mul-record-reaches record-reaches-requires returns)
+judged-spec = tie.close (tie.spec mul-row-reaches row-reaches-requires returns)

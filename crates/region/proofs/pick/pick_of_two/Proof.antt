@@ -1,14 +1,17 @@
--- The last record that holds the corner covers the box, or the lists that have one are asked.
+-- The last row that holds the corner covers the box, or the lists that have one are asked.
 use native.Mathlib.Omega.{arith}
-use Rattle.policy.specs.Header.{ranges}
-use Rattle.region.specs.Records.{recordsIn}
-use Rattle.region.proofs.Choosing.{covers-left, covers-right, none-holds, picks-first, picks-second}
+use Prim.Native.Nat.{_/_}
+use mathlib.Core.Path.{sym}
+use lib.ListN.{length}
+use Rattle.region.specs.Rows.{rowSize, boxOf, rowsIn}
+use Rattle.region.proofs.Choosing.{covers-left, covers-right, none-holds, picks-first, picks-second, picked-few}
+use Rattle.region.proofs.Members.{length-rows}
 use borrow.Author.Needs.{needs}
 use Rattle.region.proofs.pick.pick_of_two.Statement.{statement}
 use Rattle.region.proofs.pick.pick_of_two.Tie as tie
 
-up-to-corner-in-requires : tie.Need-up-to-corner-in-requires
-up-to-corner-in-requires c κs = search needs
+up-to-last-requires : tie.Need-up-to-last-requires
+up-to-last-requires c κs = search needs
 
 last-covers-requires : tie.Need-last-covers-requires
 last-covers-requires c κs = search needs
@@ -16,10 +19,10 @@ last-covers-requires c κs = search needs
 returns : tie.Need-returns
 returns c =
     let a = c .before .before .before .before .before .args in
-    covers-left (recordsIn (a .a .now)) (recordsIn (a .b .now)) (ranges (a .x)) (c .before .last-covers .ensures (c .if1 .taken))
+    covers-left (rowsIn (a .a .now)) (rowsIn (a .b .now)) (boxOf (a .x .now) 0) (c .before .last-covers .ensures (c .if1 .taken))
 
-up-to-corner-in-requires-2 : tie.Need-up-to-corner-in-requires-2
-up-to-corner-in-requires-2 c κs = search needs
+up-to-last-requires-2 : tie.Need-up-to-last-requires-2
+up-to-last-requires-2 c κs = search needs
 
 last-covers-requires-2 : tie.Need-last-covers-requires-2
 last-covers-requires-2 c κs = search needs
@@ -27,7 +30,7 @@ last-covers-requires-2 c κs = search needs
 returns-2 : tie.Need-returns-2
 returns-2 c =
     let a = c .before .before .before .before .before .before .before .before .args in
-    covers-right (recordsIn (a .a .now)) (recordsIn (a .b .now)) (ranges (a .x)) (c .before .last-covers2 .ensures (c .if2 .taken))
+    covers-right (rowsIn (a .a .now)) (rowsIn (a .b .now)) (boxOf (a .x .now) 0) (c .before .last-covers2 .ensures (c .if2 .taken))
 
 pick-of-one-requires : tie.Need-pick-of-one-requires
 pick-of-one-requires c κs = search needs
@@ -35,24 +38,30 @@ pick-of-one-requires c κs = search needs
 returns-3 : tie.Need-returns-3
 returns-3 c =
     let a = c .before .before .before .before .before .before .before .before .before .before .args in
-    picks-first (recordsIn (a .a .now)) (recordsIn (a .b .now)) (ranges (a .x)) (c .pick-of-one .result) (c .pick-of-one .ensures) (none-holds (a .b .now) (ranges (a .x)) _ (c .before .if3 .taken) (c .before .before .before .before .up-to-corner-in2 .ensures))
+    picks-first (rowsIn (a .a .now)) (rowsIn (a .b .now)) (boxOf (a .x .now) 0) (c .pick-of-one .result) (c .pick-of-one .ensures) (none-holds (a .b .now) (boxOf (a .x .now) 0) _ (c .before .if3 .taken) (c .before .before .before .before .up-to-last2 .ensures))
 
-sub-up-to-corner : tie.Need-sub-up-to-corner
-sub-up-to-corner c = search needs
+sub-up-to-last : tie.Need-sub-up-to-last
+sub-up-to-last c = search needs
 
-up-to-corner-requires : tie.Need-up-to-corner-requires
-up-to-corner-requires c κs = search needs
+up-to-last-requires-3 : tie.Need-up-to-last-requires-3
+up-to-last-requires-3 c κs = search needs
 
 pick-heaviest-requires : tie.Need-pick-heaviest-requires
 pick-heaviest-requires c κs = search needs
 
+picked-behind-requires : tie.Need-picked-behind-requires
+picked-behind-requires c κs =
+    let a = c .before .before .before .before .before .before .before .before .before .before .before .before .args in
+    omega (arith, picked-few (rowsIn (a .b .now)) (boxOf (a .x .now) 0) (c .pick-heaviest .result) (c .pick-heaviest .ensures), length-rows (a .b .now) 0 (length (a .b .now) / rowSize))
+
 returns-4 : tie.Need-returns-4
 returns-4 c =
-    let a = c .before .before .before .before .before .before .before .before .before .before .before .before .args in
-    picks-second (recordsIn (a .a .now)) (recordsIn (a .b .now)) (ranges (a .x)) (c .pick-heaviest .result) (c .pick-heaviest .ensures) (none-holds (a .a .now) (ranges (a .x)) _ (c .before .before .if4 .taken) (c .before .before .before .before .before .before .before .before .before .up-to-corner-in .ensures))
+    let a = c .before .before .before .before .before .before .before .before .before .before .before .before .before .args in
+    picks-second (rowsIn (a .a .now)) (rowsIn (a .b .now)) (boxOf (a .x .now) 0) _ (c .before .pick-heaviest .result) _ (sym (length-rows (a .a .now) 0 (length (a .a .now) / rowSize))) (c .before .pick-heaviest .ensures) (none-holds (a .a .now) (boxOf (a .x .now) 0) _ (c .before .before .before .if4 .taken) (c .before .before .before .before .before .before .before .before .before .before .up-to-last .ensures)) (c .picked-behind .ensures)
 
 pick-of-both-requires : tie.Need-pick-of-both-requires
-pick-of-both-requires c κs = ((omega (arith, c .if4 .left), c .before .before .before .before .before .before .before .up-to-corner-in .ensures), (omega (arith, c .before .if3 .left), c .before .before .before .before .up-to-corner-in2 .ensures))
+pick-of-both-requires c κs =
+    ((omega (arith, c .if4 .left), c .before .before .before .before .before .before .before .up-to-last .ensures), (omega (arith, c .before .if3 .left), c .before .before .before .before .up-to-last2 .ensures))
 
 returns-5 : tie.Need-returns-5
 returns-5 c = search needs
@@ -61,17 +70,18 @@ pub pick-of-two-spec : {M : Type 1} → statement M
 pick-of-two-spec =
     tie.close
     (tie.spec
-    up-to-corner-in-requires
+    up-to-last-requires
     last-covers-requires
     returns
-    up-to-corner-in-requires-2
+    up-to-last-requires-2
     last-covers-requires-2
     returns-2
     pick-of-one-requires
     returns-3
-    sub-up-to-corner
-    up-to-corner-requires
+    sub-up-to-last
+    up-to-last-requires-3
     pick-heaviest-requires
+    picked-behind-requires
     returns-4
     pick-of-both-requires
     returns-5)

@@ -1,27 +1,30 @@
--- From the last record to the first that holds the numbers; none passed does.
-use Prim.Native.Nat.{_≤_}
+-- From the last row to the first that holds the corner; none passed does.
 use native.Mathlib.Omega.{arith}
+use Prim.Native.Nat.{_≤_, _-_}
+use Rattle.policy.specs.Header.{arity}
+use Rattle.policy.specs.Box.{lows}
+use Rattle.region.specs.Rows.{boxOf}
 use Rattle.region.proofs.Choosing.{Passed, passed-none, passed-more, last-found, last-none}
 use Rattle.region.proofs.pick.up_to_last.Statement.{statement}
 use Rattle.region.proofs.pick.up_to_last.Tie as tie
 
 abbrev Inv-loop : tie.InvT-loop
-Inv-loop s n local remote local-port remote-port protocol i₀ i = (i ≤ n) × Passed s n (local, (remote, (local-port, (remote-port, (protocol, tt))))) i
+Inv-loop s n b i₀ i = (i ≤ n) × Passed s n (lows arity (boxOf b 0)) i
 
 abbrev μ-loop : tie.MeasureT-loop
-μ-loop s n local remote local-port remote-port protocol i₀ i = i
+μ-loop s n b i₀ i = i
 
 loop-holds : tie.Need-loop-holds Inv-loop μ-loop
 loop-holds c = (omega arith, search passed-none)
 
-sub-holds-numbers : tie.Need-sub-holds-numbers Inv-loop μ-loop
-sub-holds-numbers c = omega arith
+sub-holds-corner : tie.Need-sub-holds-corner Inv-loop μ-loop
+sub-holds-corner c = omega arith
 
-mul-holds-numbers : tie.Need-mul-holds-numbers Inv-loop μ-loop
-mul-holds-numbers c = omega arith
+mul-holds-corner : tie.Need-mul-holds-corner Inv-loop μ-loop
+mul-holds-corner c = omega arith
 
-holds-numbers-requires : tie.Need-holds-numbers-requires Inv-loop μ-loop
-holds-numbers-requires c κs = omega arith
+holds-corner-requires : tie.Need-holds-corner-requires Inv-loop μ-loop
+holds-corner-requires c κs = omega arith
 
 returns : tie.Need-returns Inv-loop μ-loop
 returns c = search last-found
@@ -45,9 +48,9 @@ up-to-last-spec =
     Inv-loop
     μ-loop
     loop-holds
-    sub-holds-numbers
-    mul-holds-numbers
-    holds-numbers-requires
+    sub-holds-corner
+    mul-holds-corner
+    holds-corner-requires
     returns
     sub-i
     loop-less

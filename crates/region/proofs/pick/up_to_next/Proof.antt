@@ -1,8 +1,9 @@
--- Before the first record there is none.
+-- Before the first row there is none.
 use native.Mathlib.Omega.{arith}
 use Prim.Native.Nat.{_-_}
 use Rattle.policy.specs.Box.{lows}
-use Rattle.policy.specs.Header.{arity, ranges}
+use Rattle.policy.specs.Header.{arity}
+use Rattle.region.specs.Rows.{boxOf}
 use Rattle.region.proofs.Choosing.{passed-none, last-none}
 use borrow.Author.Needs.{needs}
 use Rattle.region.proofs.pick.up_to_next.Statement.{statement}
@@ -12,7 +13,8 @@ returns : tie.Need-returns
 returns c =
     let a = c .before .before .args in
     let n = a .i - 1 in
-    last-none (a .s .now) n (lows arity (ranges (a .b))) n (omega (arith, c .if1 .taken)) (passed-none (a .s .now) n (lows arity (ranges (a .b))))
+    let x = lows arity (boxOf (a .b .now) 0) in
+    last-none (a .s .now) n x n (omega (arith, c .if1 .taken)) (passed-none (a .s .now) n x)
 
 sub-up-to-last : tie.Need-sub-up-to-last
 sub-up-to-last c = search needs

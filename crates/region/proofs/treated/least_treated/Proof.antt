@@ -4,29 +4,28 @@ use native.Mathlib.Omega.{arith}
 use mathlib.Core.Path.{_≡_, refl, sym, _∙_, ap}
 use lib.ListN.{length}
 use borrow.Author.Needs.{needs}
-use Rattle.policy.specs.Header.{headers, ranges}
+use Rattle.policy.specs.Header.{headers}
 use Rattle.policy.specs.Found.{lesser}
 use Rattle.policy.specs.declared.header.Found.{Found}
 use Rattle.policy.proofs.Bool.{not-true, not-false}
-use Rattle.wire.specs.Format.{recordSize}
-use Rattle.region.specs.Records.{recordsIn}
+use Rattle.region.specs.Rows.{rowSize, boxOf, rowsIn}
 use Rattle.region.proofs.Judging.{Left, left-start, left-searched, left-passed, left-exhausted, left-uncaught, left-none}
 use Rattle.region.proofs.Uses.{leftIn}
 use Rattle.region.proofs.treated.least_treated.Statement.{statement}
 use Rattle.region.proofs.treated.least_treated.Tie as tie
 
 abbrev Inv-loop : tie.InvT-loop
-Inv-loop front records x q uncaught n found₀ searches₀ i₀ found searches i =
-    (i ≤ length records / recordSize)
-    × (lesser (leftIn headers (ranges x) q uncaught (recordsIn front) (recordsIn records)) found₀ ≡ lesser (Left headers (ranges x) q uncaught (recordsIn front) records i) found)
+Inv-loop front rows x q uncaught n found₀ searches₀ i₀ found searches i =
+    (i ≤ length rows / rowSize)
+    × (lesser (leftIn headers (boxOf x 0) q uncaught (rowsIn front) (rowsIn rows)) found₀ ≡ lesser (Left headers (boxOf x 0) q uncaught (rowsIn front) rows i) found)
 
 abbrev μ-loop : tie.MeasureT-loop
-μ-loop front records x q uncaught n found₀ searches₀ i₀ found searches i = n - i
+μ-loop front rows x q uncaught n found₀ searches₀ i₀ found searches i = n - i
 
 loop-holds : tie.Need-loop-holds Inv-loop μ-loop
 loop-holds c =
     let a = c .before .before .args in
-    (omega arith, ap (λ (r : Found). lesser r (a .best)) (left-start headers (ranges (a .x)) (a .q) (a .uncaught) (recordsIn (a .front .now)) (a .records .now) (length (a .records .now) / recordSize) refl))
+    (omega arith, ap (λ (r : Found). lesser r (a .best)) (left-start headers (boxOf (a .x .now) 0) (a .q) (a .uncaught) (rowsIn (a .front .now)) (a .rows .now) (length (a .rows .now) / rowSize) refl))
 
 mul-at : tie.Need-mul-at Inv-loop μ-loop
 mul-at c = omega arith
@@ -46,7 +45,7 @@ loop-again c =
     let l = c .before .before .before .loop in (
       omega arith,
       l .inv .1
-          ∙ left-passed headers (ranges (a .x)) (a .q) (a .uncaught) (recordsIn (a .front .now)) (a .records .now) (l .i) (recordSize * l .i) (l .found) _ (c .before .before .loop-test .taken) refl (c .before .has-wanted-part .ensures) (not-true (c .if1 .taken)),
+          ∙ left-passed headers (boxOf (a .x .now) 0) (a .q) (a .uncaught) (rowsIn (a .front .now)) (a .rows .now) (l .i) (rowSize * l .i) (l .found) _ (c .before .before .loop-test .taken) refl (c .before .has-wanted-part .ensures) (not-true (c .if1 .taken)),
     )
 
 sub-is-done : tie.Need-sub-is-done Inv-loop μ-loop
@@ -65,7 +64,7 @@ returns : tie.Need-returns Inv-loop μ-loop
 returns c =
     let a = c .before .before .before .before .before .before .before .before .before .args in
     let l = c .before .before .before .before .before .before .loop in
-    left-exhausted headers (ranges (a .x)) (a .q) (a .uncaught) (recordsIn (a .front .now)) (a .records .now) (l .i) (recordSize * l .i - 0) (l .found) (c .before .before .before .before .before .loop-test .taken) (omega arith) (c .before .is-done .ensures (c .if2 .taken)) ∙ sym (l .inv .1)
+    left-exhausted headers (boxOf (a .x .now) 0) (a .q) (a .uncaught) (rowsIn (a .front .now)) (a .rows .now) (l .i) (rowSize * l .i - 0) (l .found) (c .before .before .before .before .before .loop-test .taken) (omega arith) (c .before .is-done .ensures (c .if2 .taken)) ∙ sym (l .inv .1)
 
 with-entry-requires : tie.Need-with-entry-requires Inv-loop μ-loop
 with-entry-requires c κs = omega arith
@@ -85,7 +84,7 @@ loop-again-2 c =
     let l = c .before .before .before .before .before .before .before .before .loop in (
       omega arith,
       l .inv .1
-          ∙ left-searched headers (ranges (a .x)) (a .q) (a .uncaught) (recordsIn (a .front .now)) (a .records .now) (l .i) (recordSize * l .i) (l .found) _ (c .before .before .before .before .before .before .before .loop-test .taken) refl (c .before .before .before .before .before .before .has-wanted-part .ensures) _ (not-false (c .before .before .before .before .before .if1 .left)) (c .before .with-entry .ensures),
+          ∙ left-searched headers (boxOf (a .x .now) 0) (a .q) (a .uncaught) (rowsIn (a .front .now)) (a .rows .now) (l .i) (rowSize * l .i) (l .found) _ (c .before .before .before .before .before .before .before .loop-test .taken) refl (c .before .before .before .before .before .before .has-wanted-part .ensures) _ (not-false (c .before .before .before .before .before .if1 .left)) (c .before .with-entry .ensures),
     )
 
 least-open-requires : tie.Need-least-open-requires Inv-loop μ-loop
@@ -95,13 +94,13 @@ returns-2 : tie.Need-returns-2 Inv-loop μ-loop
 returns-2 c =
     let a = c .before .before .before .before .before .before .args in
     let l = c .before .before .before .loop in
-    left-uncaught headers (ranges (a .x)) (a .q) (a .uncaught) (recordsIn (a .front .now)) (a .records .now) (l .i) (l .found) _ (l .inv .0) (c .before .before .loop-test .left) (c .before .if3 .taken) (c .least-open .ensures) ∙ sym (l .inv .1)
+    left-uncaught headers (boxOf (a .x .now) 0) (a .q) (a .uncaught) (rowsIn (a .front .now)) (a .rows .now) (l .i) (l .found) _ (l .inv .0) (c .before .before .loop-test .left) (c .before .if3 .taken) (c .least-open .ensures) ∙ sym (l .inv .1)
 
 returns-3 : tie.Need-returns-3 Inv-loop μ-loop
 returns-3 c =
     let a = c .before .before .before .before .before .args in
     let l = c .before .before .loop in
-    left-none headers (ranges (a .x)) (a .q) (a .uncaught) (recordsIn (a .front .now)) (a .records .now) (l .i) (l .found) (l .inv .0) (c .before .loop-test .left) (c .if3 .left) ∙ sym (l .inv .1)
+    left-none headers (boxOf (a .x .now) 0) (a .q) (a .uncaught) (rowsIn (a .front .now)) (a .rows .now) (l .i) (l .found) (l .inv .0) (c .before .loop-test .left) (c .if3 .left) ∙ sym (l .inv .1)
 
 pub least-treated-spec : {M : Type 1} → statement M
 least-treated-spec =

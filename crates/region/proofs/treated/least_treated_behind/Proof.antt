@@ -1,6 +1,6 @@
 -- Either front leaves nothing of the box, or it is searched.
-use Rattle.policy.specs.Header.{headers, ranges}
-use Rattle.region.specs.Records.{recordsIn}
+use Rattle.policy.specs.Header.{headers}
+use Rattle.region.specs.Rows.{boxOf, rowsIn}
 use Rattle.region.proofs.Judging.{front-exhausts}
 use borrow.Author.Needs.{needs}
 use Rattle.region.proofs.treated.least_treated_behind.Statement.{statement}
@@ -21,7 +21,7 @@ is-exhausted-requires c κs = search needs
 returns : tie.Need-returns
 returns c =
     let a = c .before .before .before .before .before .args in
-    front-exhausts headers (ranges (a .x)) (a .q) (a .uncaught) (recordsIn (a .front .now)) (recordsIn (a .records .now)) (a .best) _ (c .if1 .taken) (c .before .is-exhausted .ensures)
+    front-exhausts headers (boxOf (a .x .now) 0) (a .q) (a .uncaught) (rowsIn (a .front .now)) (rowsIn (a .rows .now)) (a .best) _ (c .if1 .taken) (c .before .is-exhausted .ensures)
 
 least-treated-requires : tie.Need-least-treated-requires
 least-treated-requires c κs = search needs
