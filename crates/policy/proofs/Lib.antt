@@ -10,3 +10,4 @@ pub mod Rows
 pub mod Every
 pub mod Loops
 pub mod Numbers
+pub mod Slices

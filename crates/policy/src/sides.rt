@@ -6,7 +6,7 @@ ghost use lib.ListN.{length};
 ghost use lib.Dec.{leb};
 ghost use Rattle.policy.specs.Box.{proper, same, meet};
 ghost use Rattle.policy.specs.Header.{arity};
-ghost use Rattle.policy.specs.Rows.{sides, field, boxOf};
+ghost use Rattle.policy.specs.Rows.{sides, rowSize, field, boxOf, rowAt};
 
 // How many fields a header has; the sides of a box, a low and a high for each; and the numbers of a row, which has an action set too.
 pub const FIELDS: usize = 5;
@@ -42,6 +42,14 @@ pub fn high(b: &[u32; SIDES], f: usize) -> u32
     ensures { λ r. ⌜ r ≡ field (now (b .entry)) 0 f .high ⌝ }
 {
     b[2 * f + 1]
+}
+
+// The action set of the row at a place.
+pub fn actions_at(s: &[u32], at: usize) -> u32
+    requires { ⌜ at + rowSize ≤ length (now s) ⌝ }
+    ensures { λ r. ⌜ r ≡ rowAt (now (s .entry)) at .actions ⌝ }
+{
+    s[at + SIDES]
 }
 
 // The greater and the lesser of two numbers.

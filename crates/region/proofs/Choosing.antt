@@ -19,12 +19,13 @@ use Rattle.policy.proofs.Branches.{paired}
 use Rattle.policy.proofs.Bool.{clash, and-intro, and-left, and-right}
 use Rattle.policy.proofs.Box.{within-by, low-le, le-high}
 use Rattle.policy.proofs.Policy.{missed-append, missed-cons}
+use Rattle.policy.proofs.Slices.{length-rows}
 use Rattle.region.specs.declared.pick.Choice.{Choice}
 use Rattle.region.specs.declared.pick.Picked.{Picked}
 use Rattle.region.specs.declared.pick.Picked.the-variants.{Held, Free, Covered}
-use Rattle.region.specs.Rows.{rowSize, boxOf, rowAt, rowsFrom, rowsIn}
+use Rattle.policy.specs.Rows.{rowSize, boxOf, rowAt, rowsFrom, rowsIn}
 use Rattle.region.specs.Corner.{holds, reaches, Covers, Picks, numberOf, shifted, HoldsLast, Chooses, Better}
-use Rattle.region.proofs.Members.{catches, in-left, in-right, length-rows, row-in}
+use Rattle.region.proofs.Members.{catches, in-left, in-right, row-in}
 
 -- ---- two lists
 

@@ -20,10 +20,11 @@ use Rattle.policy.proofs.Bool.{and-left, and-right}
 use Rattle.policy.proofs.Branches.{ends-are, paired}
 use Rattle.policy.proofs.Box.{le-high}
 use Rattle.region.specs.declared.cut.Candidate.{Candidate}
-use Rattle.region.specs.Rows.{sides, rowOf, field, boxOf}
+use Rattle.policy.specs.Rows.{sides, rowOf, field, boxOf}
 use Rattle.region.specs.Corner.{holds, reaches}
 use Rattle.region.specs.Pieces.{upTo, atField, Short, Next, Offered}
-use Rattle.region.proofs.Every.{every-passed, row-ext, reaches-every}
+use Rattle.policy.proofs.Every.{every-passed, row-ext}
+use Rattle.region.proofs.Holding.{reaches-every}
 
 -- a row of numbers that fit their sizes: the first, and the others
 pub fits-first : (k : ℕ) (ns x : Row ℕ (suc k)) → fits (suc k) ns x ≡ true → x .0 < ns .0

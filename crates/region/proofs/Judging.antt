@@ -23,13 +23,13 @@ use Rattle.policy.specs.Refusals.{numbers, accepted}
 use Rattle.policy.proofs.Bool.{clash, not-true, and-left}
 use Rattle.policy.proofs.Order.{Order, earlier, equal, later, order}
 use Rattle.policy.proofs.Branch.{crossed-none}
+use Rattle.policy.proofs.Slices.{rows-split, rows-take}
 use Rattle.region.specs.declared.treated.Sets.{Sets}
 use Rattle.region.specs.declared.treated.Sets.the-variants.{Same, Other, Lacking}
-use Rattle.region.specs.Rows.{rowSize, boxOf, rowAt, rowsFrom, rowsIn}
+use Rattle.policy.specs.Rows.{rowSize, boxOf, rowAt, rowsFrom, rowsIn}
 use Rattle.region.specs.Corner.{improves}
 use Rattle.region.specs.Treated.{wanted}
 use Rattle.region.specs.Search.{foundAnswer}
-use Rattle.region.proofs.Members.{rows-split, rows-take}
 use Rattle.region.proofs.Uses.{leftIn, judged-wanted, judged-passed, judged-end, judged-exhausted}
 
 -- ---- is_wanted

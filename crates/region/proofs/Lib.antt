@@ -1,5 +1,4 @@
-pub mod Every
-pub mod Loops
+pub mod Holding
 pub mod Fields
 pub mod Members
 pub mod Choosing

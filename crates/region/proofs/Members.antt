@@ -2,22 +2,20 @@
 -- Assumes nothing.
 use Prim.Native.Nat.{ℕ, zero, suc, _<_, _≤_, _-_, _+_, _*_, _/_}
 use native.Mathlib.Omega.{arith}
-use native.Mathlib.Nat.{zero-add, add-zero, suc-add}
+use native.Mathlib.Nat.{zero-add, suc-add}
 use mathlib.Core.Path.{_≡_, refl, sym, _∙_, ap, ap₂}
 use mathlib.Core.Bool.{Bool, true, false, not, _&&_, and-false}
 use mathlib.Core.List.{List, [], _∷_, _++_}
-use lib.ListN.{length, getD, take, length-append}
-use lib.Seq.{getD-take}
+use lib.ListN.{length, length-append}
 use Rattle.policy.specs.declared.header.Header.{Header}
 use Rattle.policy.specs.declared.entry.Entry.{Entry}
-use Rattle.policy.specs.Header.{arity, Box, lies}
-use Rattle.policy.specs.Entry.{entry, selector, matches}
+use Rattle.policy.specs.Header.{Box, lies}
+use Rattle.policy.specs.Entry.{selector, matches}
 use Rattle.policy.specs.Policy.{missed}
-use Rattle.policy.proofs.Branches.{ends-are}
 use Rattle.policy.proofs.Policy.{missed-cons}
-use Rattle.region.specs.Rows.{sides, rowSize, field, boxOf, rowAt, rowsFrom, rowsIn}
+use Rattle.policy.proofs.Slices.{length-rows}
+use Rattle.policy.specs.Rows.{rowSize, boxOf, rowAt, rowsFrom, rowsIn}
 use Rattle.region.specs.Corner.{selectorIn}
-use Rattle.region.proofs.Every.{row-ext}
 
 none-below : (i : ℕ) → i < 0 → ⊥
 none-below i l = omega arith
@@ -51,32 +49,6 @@ in-left (e ∷ es) ds (suc i) l = in-left es ds i (down i (length es) l)
 pub in-right : (es ds : List Entry) (i : ℕ) → selectorIn (es ++ ds) (length es + i) ≡ selectorIn ds i
 in-right [] ds i = ap (selectorIn ds) (zero-add i)
 in-right (e ∷ es) ds i = ap (selectorIn (e ∷ es ++ ds)) (suc-add (length es) i) ∙ later-in e (es ++ ds) (length es + i) ∙ in-right es ds i
-
-pub length-rows : (s : List ℕ) (at n : ℕ) → length (rowsFrom s at n) ≡ n
-length-rows s at zero = refl
-length-rows s at (suc n) = ap suc (length-rows s (at + rowSize) n)
-
--- the first n and m more
-pub rows-split : (s : List ℕ) (at n m : ℕ) → rowsFrom s at (n + m) ≡ rowsFrom s at n ++ rowsFrom s (at + rowSize * n) m
-rows-split s at zero m = ap₂ (rowsFrom s) (sym (add-zero at)) (zero-add m)
-rows-split s at (suc n) m =
-    ap (rowsFrom s at) (suc-add n m)
-    ∙ ap (rowAt s at ∷_) (rows-split s (at + rowSize) n m ∙ ap (λ (x : ℕ). rowsFrom s (at + rowSize) n ++ rowsFrom s x m) (onward at n))
-  where
-    onward : (at k : ℕ) → at + rowSize + rowSize * k ≡ at + rowSize * suc k
-    onward at k = omega arith
-
--- two slices that agree on the numbers of n rows have the same rows there
-same-rows : (s t : List ℕ) (at n m : ℕ) → at + rowSize * n ≤ m → ((i : ℕ) → i < m → getD s i 0 ≡ getD t i 0) → rowsFrom s at n ≡ rowsFrom t at n
-unfolding boxOf
-same-rows s t at zero m l f = refl
-same-rows s t at (suc n) m l f =
-    ap₂ (_∷_)
-    (ap₂ entry (row-ext arity (field s at) (field t at) λ j k. ends-are (f (2 * j + at) (omega arith)) (f (2 * j + 1 + at) (omega arith))) (f (at + sides) (omega arith)))
-    (same-rows s t (at + rowSize) n m (omega arith) f)
-
-pub rows-take : (s : List ℕ) (m at n : ℕ) → at + rowSize * n ≤ m → rowsFrom (take m s) at n ≡ rowsFrom s at n
-rows-take s m at n l = same-rows (take m s) s at n m l λ i k. getD-take m s i 0 k
 
 -- the i-th row of a slice
 pub row-in : (s : List ℕ) (i : ℕ) → i < length s / rowSize → selectorIn (rowsIn s) i ≡ boxOf s (rowSize * i)

@@ -19,7 +19,7 @@ use Rattle.policy.proofs.Box.{corner-in, none-before}
 use Rattle.policy.proofs.Least.{among-fits}
 use Rattle.policy.proofs.Branch.{found-lies}
 use Rattle.policy.proofs.Branches.{paired}
-use Rattle.region.specs.Rows.{field, boxOf}
+use Rattle.policy.specs.Rows.{field, boxOf}
 use Rattle.region.specs.Corner.{Within, improves}
 use Rattle.region.proofs.Fields.{fits-first, fits-rest}
 

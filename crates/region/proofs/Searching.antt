@@ -15,13 +15,13 @@ use Rattle.policy.specs.Found.{lesser}
 use Rattle.policy.specs.Least.{leastIn}
 use Rattle.policy.specs.Policy.{allowed, missed}
 use Rattle.policy.proofs.Least.{lesser-last}
+use Rattle.policy.proofs.Slices.{length-rows, rows-split}
 use Rattle.region.specs.declared.treated.Sets.the-variants.{Other}
 use Rattle.region.specs.declared.search.Want.{Want}
 use Rattle.region.specs.declared.search.Want.the-variants.{Uncaught, CaughtBy, Differs}
-use Rattle.region.specs.Rows.{rowSize, boxOf, rowAt, rowsFrom, rowsIn}
+use Rattle.policy.specs.Rows.{rowSize, boxOf, rowAt, rowsFrom, rowsIn}
 use Rattle.region.specs.Treated.{judged}
 use Rattle.region.specs.Search.{treated}
-use Rattle.region.proofs.Members.{length-rows, rows-split}
 use Rattle.region.proofs.Uses.{caught-by, caught-by-none, differs-judged}
 use Rattle.region.proofs.Judging.{firsts-in}
 

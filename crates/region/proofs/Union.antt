@@ -21,7 +21,7 @@ use Rattle.policy.proofs.Bool.{not-true, and-intro, and-right, or-left, or-righ
 use Rattle.policy.proofs.Box.{within-by, meet-is}
 use Rattle.policy.proofs.Least.{among-fits, agree, min-from, lesser-last}
 use Rattle.policy.proofs.Branch.{crossed-none, over-set}
-use Rattle.region.specs.Rows.{rowSize, rowsIn}
+use Rattle.policy.specs.Rows.{rowSize, rowsIn}
 use Rattle.region.specs.Corner.{Within, meeting}
 use Rattle.region.proofs.Meeting.{meeting-all}
 use Rattle.region.proofs.Fields.{fits-first, fits-rest}

@@ -16,7 +16,7 @@ use Rattle.policy.specs.Box.{inside, proper, lows, meet}
 use Rattle.policy.specs.Header.{arity, header, before, Box, lies, Headers, among}
 use Rattle.policy.specs.Entry.{selector}
 use Rattle.policy.specs.Policy.{missed}
-use Rattle.region.specs.Rows.{rowSize, boxOf, rowAt, rowsFrom, rowsIn}
+use Rattle.policy.specs.Rows.{rowSize, boxOf, rowAt, rowsFrom, rowsIn}
 use Rattle.region.specs.declared.pick.Choice.{Choice}
 use Rattle.region.specs.declared.pick.Picked.{Picked}
 use Rattle.region.specs.declared.pick.Picked.the-variants.{Held, Free, Covered}

@@ -1,4 +1,3 @@
-pub mod Rows
 pub mod Corner
 pub mod Pieces
 pub mod Searched

@@ -1,15 +1,15 @@
 // The low corner of a box as a header, and whether it is worth looking at. Here alone a header's numbers have names and widths.
-use crate::sides::SIDES;
-use crate::sides::low;
 use policy::header::Found;
 use policy::header::Header;
 use policy::header::is_before;
+use policy::sides::SIDES;
+use policy::sides::low;
 ghost use mathlib.Core.Path.{_≡_};
 ghost use mathlib.Core.Bool.{true};
 ghost use Rattle.policy.specs.Row.{fits};
 ghost use Rattle.policy.specs.Box.{lows};
 ghost use Rattle.policy.specs.Header.{arity, header, sizes};
-ghost use Rattle.region.specs.Rows.{boxOf};
+ghost use Rattle.policy.specs.Rows.{boxOf};
 ghost use Rattle.region.specs.Corner.{improves};
 
 // The low corner of b as a header.

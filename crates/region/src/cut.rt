@@ -1,13 +1,13 @@
 // The two parts of a box that a row leaves when it is cut where the row ends in one field.
-use crate::sides::FIELDS;
-use crate::sides::SIDES;
-use crate::sides::high;
+use policy::sides::FIELDS;
+use policy::sides::SIDES;
+use policy::sides::high;
 ghost use mathlib.Core.Path.{_≡_};
 ghost use mathlib.Core.Bool.{true};
 ghost use Prim.Native.Nat.{_<_};
 ghost use Rattle.policy.specs.Cut.{above};
 ghost use Rattle.policy.specs.Header.{arity};
-ghost use Rattle.region.specs.Rows.{boxOf};
+ghost use Rattle.policy.specs.Rows.{boxOf};
 ghost use Rattle.region.specs.Corner.{holds};
 ghost use Rattle.region.specs.Pieces.{upTo, atField, Short, Next, Offered};
 

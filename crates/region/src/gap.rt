@@ -1,12 +1,12 @@
 // Check 5: the least header that a list does not catch.
-use crate::headers::whole;
 use crate::least::least_missed;
 use policy::header::Found;
+use policy::header::whole;
 ghost use mathlib.Core.Path.{_≡_};
 ghost use Rattle.policy.specs.Header.{headers};
 ghost use Rattle.policy.specs.Least.{least};
 ghost use Rattle.policy.specs.Policy.{missed};
-ghost use Rattle.region.specs.Rows.{rowsIn};
+ghost use Rattle.policy.specs.Rows.{rowsIn};
 
 // The least header that no row matches; nothing if the list is covering.
 pub fn first_gap(rows: &[u32]) -> Found

@@ -1,13 +1,13 @@
 // A row that holds the low corner of a box.
-use crate::sides::FIELDS;
-use crate::sides::ROW;
-use crate::sides::SIDES;
-use crate::sides::high;
-use crate::sides::high_at;
-use crate::sides::holds_corner;
-use crate::sides::low;
-use crate::sides::row_reaches;
-use crate::sides::row_sides;
+use crate::holds::holds_corner;
+use crate::holds::row_reaches;
+use policy::sides::FIELDS;
+use policy::sides::ROW;
+use policy::sides::SIDES;
+use policy::sides::high;
+use policy::sides::high_at;
+use policy::sides::low;
+use policy::sides::row_sides;
 ghost use mathlib.Core.Path.{_≡_};
 ghost use mathlib.Core.Bool.{true, false};
 ghost use mathlib.Core.List.{_++_};
@@ -15,7 +15,7 @@ ghost use Prim.Native.Nat.{_+_, _-_, _*_, _/_, _≤_, _<_};
 ghost use lib.ListN.{length};
 ghost use Rattle.policy.specs.Box.{lows};
 ghost use Rattle.policy.specs.Header.{arity};
-ghost use Rattle.region.specs.Rows.{sides, rowSize, boxOf, rowsIn};
+ghost use Rattle.policy.specs.Rows.{sides, rowSize, boxOf, rowsIn};
 ghost use Rattle.region.specs.Corner.{Picks, HoldsLast, Chooses, Better, Covers, selectorIn, numberOf, shifted};
 
 // The number of a row that holds the low corner of a box; or no row holds it; or the rows hold all of the box.

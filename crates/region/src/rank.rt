@@ -1,15 +1,15 @@
 // Which field to cut first: the one in which the fewest rows cross the cut. It matters to the speed alone.
-use crate::sides::FIELDS;
-use crate::sides::ROW;
-use crate::sides::SIDES;
-use crate::sides::high;
-use crate::sides::high_at;
-use crate::sides::low;
-use crate::sides::low_at;
+use policy::sides::FIELDS;
+use policy::sides::ROW;
+use policy::sides::SIDES;
+use policy::sides::high;
+use policy::sides::high_at;
+use policy::sides::low;
+use policy::sides::low_at;
 ghost use Prim.Native.Nat.{_+_, _≤_, _<_};
 ghost use lib.ListN.{length};
 ghost use Rattle.policy.specs.Header.{arity};
-ghost use Rattle.region.specs.Rows.{sides};
+ghost use Rattle.policy.specs.Rows.{sides};
 
 // Whether the row at a place and x have a number of field f in common.
 fn overlaps(s: &[u32], at: usize, x: &[u32; SIDES], f: usize) -> bool

@@ -1,18 +1,18 @@
 // The search of a region: the least header of a box that a file's list treats in a wanted way.
 use crate::least::least_missed;
-use crate::sides::ROW;
-use crate::sides::SIDES;
-use crate::sides::part_in_row;
 use crate::treated::Sets;
 use crate::treated::least_treated;
 use policy::header::Found;
 use policy::header::Header;
 use policy::refusal::Refusal;
+use policy::sides::ROW;
+use policy::sides::SIDES;
+use policy::sides::part_in_row;
 ghost use mathlib.Core.Path.{_≡_};
 ghost use Rattle.policy.specs.Header.{headers};
 ghost use Rattle.policy.specs.Least.{leastIn};
 ghost use Rattle.region.specs.declared.search.Want.the-variants.{CaughtBy};
-ghost use Rattle.region.specs.Rows.{boxOf, rowsIn};
+ghost use Rattle.policy.specs.Rows.{boxOf, rowsIn};
 ghost use Rattle.region.specs.Search.{treated, foundAnswer, searched};
 
 // What is looked for.

@@ -1,15 +1,15 @@
 // Which of two boxes is the larger, or meets more rows. It matters to the depth of the search alone.
 use crate::rank::is_near;
 use crate::rank::sum;
-use crate::sides::FIELDS;
-use crate::sides::ROW;
-use crate::sides::SIDES;
-use crate::sides::high;
-use crate::sides::low;
+use policy::sides::FIELDS;
+use policy::sides::ROW;
+use policy::sides::SIDES;
+use policy::sides::high;
+use policy::sides::low;
 ghost use mathlib.Core.Path.{_≡_};
 ghost use Prim.Native.Nat.{_+_, _≤_};
 ghost use lib.ListN.{length};
-ghost use Rattle.region.specs.Rows.{sides, boxOf};
+ghost use Rattle.policy.specs.Rows.{sides, boxOf};
 ghost use Rattle.region.specs.Searched.{Sorted};
 
 // 1 if the row at a place meets x, and 0 if not.

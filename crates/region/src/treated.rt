@@ -1,13 +1,13 @@
 // The least header of a box that a list allows a wanted action set.
 use crate::corner::is_improved;
 use crate::least::least_open;
-use crate::sides::ROW;
-use crate::sides::SIDES;
-use crate::sides::actions_at;
-use crate::sides::meets_row;
-use crate::sides::part_in_row;
 use policy::actions::is_subset;
 use policy::header::Found;
+use policy::sides::ROW;
+use policy::sides::SIDES;
+use policy::sides::actions_at;
+use policy::sides::meets_row;
+use policy::sides::part_in_row;
 use std::num::wrapping_add_u32;
 ghost use mathlib.Core.Path.{_≡_};
 ghost use mathlib.Core.Bool.{true, _&&_};
@@ -19,7 +19,7 @@ ghost use Rattle.policy.specs.Header.{arity, headers};
 ghost use Rattle.policy.specs.Found.{lesser};
 ghost use Rattle.policy.specs.Least.{leastIn};
 ghost use Rattle.policy.specs.Policy.{allowed, missed};
-ghost use Rattle.region.specs.Rows.{rowSize, boxOf, rowAt, rowsIn};
+ghost use Rattle.policy.specs.Rows.{rowSize, boxOf, rowAt, rowsIn};
 ghost use Rattle.region.specs.Treated.{wanted, judged};
 
 // The action sets that are wanted.

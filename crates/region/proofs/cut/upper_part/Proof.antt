@@ -1,7 +1,7 @@
 -- The low of one field is raised past the end of the other box.
 use mir.Val.{Fits}
 use mir.Syntax.{w32}
-use Rattle.region.specs.Rows.{field}
+use Rattle.policy.specs.Rows.{field}
 use borrow.Author.Needs.{needs}
 use native.Mathlib.Omega.{arith}
 use Rattle.region.proofs.Fields.{end-short, raised-low}

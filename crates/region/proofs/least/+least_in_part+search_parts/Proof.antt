@@ -6,7 +6,7 @@ use native.Mathlib.Omega.{arith}
 use borrow.Author.Needs.{needs}
 use Rattle.policy.specs.Header.{arity, headers}
 use Rattle.region.specs.Pieces.{Next}
-use Rattle.region.specs.Rows.{boxOf, rowsIn}
+use Rattle.policy.specs.Rows.{boxOf, rowsIn}
 use Rattle.region.specs.Searched.{Part}
 use Rattle.region.proofs.Steps.{Ready, Open, Both, ready, found-covered, found-pruned, found-corner, found-all, piece-part, kept-first, kept-again, kept-last, small-part, large-part, lower-ready, cuts-fall, held-listed, last-done, last-some, last-open, falls-in, falls-down, less, under}
 use Rattle.region.proofs.Opening.{corner-fits}

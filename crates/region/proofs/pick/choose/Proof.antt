@@ -6,7 +6,7 @@ use mathlib.Core.Bool.{true}
 use lib.ListN.{length}
 use Rattle.policy.specs.Box.{lows}
 use Rattle.policy.specs.Header.{arity}
-use Rattle.region.specs.Rows.{rowSize, boxOf}
+use Rattle.policy.specs.Rows.{rowSize, boxOf}
 use Rattle.region.specs.Corner.{holds, HoldsLast, Chooses}
 use Rattle.region.proofs.Choosing.{choose-first, choose-better}
 use Rattle.region.proofs.pick.choose.Statement.{statement}

@@ -3,9 +3,9 @@ use native.Mathlib.Omega.{arith}
 use Prim.Native.Nat.{_/_}
 use mathlib.Core.Path.{sym}
 use lib.ListN.{length}
-use Rattle.region.specs.Rows.{rowSize, boxOf, rowsIn}
+use Rattle.policy.specs.Rows.{rowSize, boxOf, rowsIn}
 use Rattle.region.proofs.Choosing.{covers-left, covers-right, none-holds, picks-first, picks-second, picked-few}
-use Rattle.region.proofs.Members.{length-rows}
+use Rattle.policy.proofs.Slices.{length-rows}
 use borrow.Author.Needs.{needs}
 use Rattle.region.proofs.pick.pick_of_two.Statement.{statement}
 use Rattle.region.proofs.pick.pick_of_two.Tie as tie

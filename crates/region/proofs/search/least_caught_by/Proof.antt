@@ -3,7 +3,7 @@ use Prim.Native.Nat.{_-_, _*_}
 use native.Mathlib.Omega.{arith}
 use borrow.Author.Needs.{needs}
 use Rattle.policy.specs.Header.{headers}
-use Rattle.region.specs.Rows.{rowSize, boxOf}
+use Rattle.policy.specs.Rows.{rowSize, boxOf}
 use Rattle.region.proofs.Searching.{found-caught-by, found-by-none}
 use Rattle.region.proofs.search.least_caught_by.Statement.{statement}
 use Rattle.region.proofs.search.least_caught_by.Tie as tie

@@ -8,7 +8,7 @@ use Rattle.policy.specs.Header.{headers}
 use Rattle.policy.specs.Found.{lesser}
 use Rattle.policy.specs.declared.header.Found.{Found}
 use Rattle.policy.proofs.Bool.{not-true, not-false}
-use Rattle.region.specs.Rows.{rowSize, boxOf, rowsIn}
+use Rattle.policy.specs.Rows.{rowSize, boxOf, rowsIn}
 use Rattle.region.proofs.Judging.{Left, left-start, left-searched, left-passed, left-exhausted, left-uncaught, left-none}
 use Rattle.region.proofs.Uses.{leftIn}
 use Rattle.region.proofs.treated.least_treated.Statement.{statement}

@@ -1,6 +1,6 @@
 -- Either front leaves nothing of the box, or it is searched.
 use Rattle.policy.specs.Header.{headers}
-use Rattle.region.specs.Rows.{boxOf, rowsIn}
+use Rattle.policy.specs.Rows.{boxOf, rowsIn}
 use Rattle.region.proofs.Judging.{front-exhausts}
 use borrow.Author.Needs.{needs}
 use Rattle.region.proofs.treated.least_treated_behind.Statement.{statement}

@@ -3,10 +3,10 @@ use borrow.Author.Needs.{needs}
 use native.Mathlib.Omega.{arith}
 use Prim.Native.Nat.{_≤_, _-_}
 use Rattle.policy.specs.Header.{arity}
-use Rattle.region.proofs.Every.{Passed, passed-none}
-use Rattle.region.proofs.Loops.{holdsAt, corner-missed, corner-more, corner-held}
-use Rattle.region.proofs.sides.holds_corner.Statement.{statement}
-use Rattle.region.proofs.sides.holds_corner.Tie as tie
+use Rattle.policy.proofs.Every.{Passed, passed-none}
+use Rattle.region.proofs.Holding.{holdsAt, corner-missed, corner-more, corner-held}
+use Rattle.region.proofs.holds.holds_corner.Statement.{statement}
+use Rattle.region.proofs.holds.holds_corner.Tie as tie
 
 abbrev Inv-loop : tie.InvT-loop
 Inv-loop s at b f₀ f = (f ≤ arity) × Passed (holdsAt s at b) f
