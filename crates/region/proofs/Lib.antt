@@ -11,3 +11,4 @@ pub mod Uses
 pub mod Judging
 pub mod Searching
 pub mod Model
+pub mod ListChecks

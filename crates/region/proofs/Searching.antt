@@ -4,24 +4,32 @@ use Prim.Native.Nat.{ℕ, suc, _<_, _≤_, _-_, _+_, _*_, _/_}
 use native.Mathlib.Omega.{arith}
 use mathlib.Core.Path.{_≡_, sym, _∙_, ap, ap₂, fun-ext}
 use mathlib.Core.Bool.{true}
-use mathlib.Core.List.{List, _∷_, _++_}
+use mathlib.Core.List.{List, [], _∷_, _++_}
 use lib.ListN.{length, take}
 use Rattle.policy.specs.declared.header.Found.{Found}
 use Rattle.policy.specs.declared.header.Found.the-variants.{Nothing}
 use Rattle.policy.specs.declared.entry.Entry.{Entry}
+use Rattle.policy.specs.declared.refusal.Refusal.{Refusal}
 use Rattle.policy.specs.Box.{meet}
-use Rattle.policy.specs.Header.{arity, Box, Headers}
+use Rattle.policy.specs.Header.{arity, Box, Headers, headers}
 use Rattle.policy.specs.Found.{lesser}
 use Rattle.policy.specs.Least.{leastIn}
 use Rattle.policy.specs.Policy.{allowed, missed}
+use Rattle.policy.specs.Refusals.{refusal}
 use Rattle.policy.proofs.Least.{lesser-last}
 use Rattle.policy.proofs.Slices.{length-rows, rows-split}
+use Rattle.wire.specs.declared.check.Checked.{Checked}
+use Rattle.wire.specs.declared.check.Checked.the-variants.{Good, Refused}
+use Rattle.wire.specs.Format.{headSize, listLimit, entriesFrom, listIn}
+use Rattle.wire.specs.Checks.{checksOf, checked}
+use Rattle.wire.proofs.Checked.{good-tells, refused-tells}
 use Rattle.region.specs.declared.treated.Sets.the-variants.{Other}
 use Rattle.region.specs.declared.search.Want.{Want}
 use Rattle.region.specs.declared.search.Want.the-variants.{Uncaught, CaughtBy, Differs}
+use Rattle.region.specs.declared.search.Searched.{Searched}
 use Rattle.policy.specs.Rows.{rowSize, boxOf, rowAt, rowsFrom, rowsIn}
 use Rattle.region.specs.Treated.{judged}
-use Rattle.region.specs.Search.{treated}
+use Rattle.region.specs.Search.{treated, foundAnswer, searchOf, searched}
 use Rattle.region.proofs.Uses.{caught-by, caught-by-none, differs-judged}
 use Rattle.region.proofs.Judging.{firsts-in}
 
@@ -76,3 +84,22 @@ module _ (hs : Headers) (s : List ℕ) (x : Box) where
       ∙ lesser-last (leastIn hs x (λ h. judged (Other a) true (allowed (rowsIn s) h)))
       ∙ ap (leastIn hs x) (fun-ext λ h. sym (differs-judged a (allowed (rowsIn s) h)))
       ∙ ap (λ (w : Want). leastIn hs x (treated w (rowsIn s))) (sym e)
+
+-- ---- the file
+
+-- the rows that its records were decoded into
+pub decoded-searched : (rows : List ℕ) (p : List Entry) (b : Box) (want : Want) (found : Found) → rowsIn rows ≡ p
+    → found ≡ leastIn headers b (treated want (rowsIn rows)) → found ≡ leastIn headers b (treated want p)
+decoded-searched rows p b want found e g = g ∙ ap (λ (p : List Entry). leastIn headers b (treated want p)) e
+
+module _ (s : List ℕ) (b : Box) (want : Want) (r : Checked) (e : checked r ≡ checksOf s listLimit) where
+  pub file-refused : (x : Refusal) → r ≡ Refused x → refusal x ≡ searchOf s b want
+  file-refused x g = refused-tells s listLimit r x e g [] (foundAnswer (leastIn headers b (treated want (listIn s))))
+
+  pub file-searched : (n : ℕ) (f : Found) (a : Searched) → r ≡ Good n → f ≡ leastIn headers b (treated want (entriesFrom s headSize n))
+      → searched a ≡ foundAnswer f → searched a ≡ searchOf s b want
+  file-searched n f a g i j =
+      let good = good-tells s listLimit r n e g in
+      j
+      ∙ ap foundAnswer (i ∙ ap (λ (k : ℕ). leastIn headers b (treated want (entriesFrom s headSize k))) (sym (good .count-is)))
+      ∙ sym (good .passes [] (foundAnswer (leastIn headers b (treated want (listIn s)))))

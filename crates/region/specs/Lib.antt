@@ -3,3 +3,4 @@ pub mod Pieces
 pub mod Searched
 pub mod Treated
 pub mod Search
+pub mod ListChecks

@@ -1,5 +1,6 @@
 // The search of a region: the least header of a box that no row of two lists matches, and what is answered by it.
 pub mod corner;
+pub mod covering;
 pub mod cut;
 pub mod gap;
 pub mod headers;

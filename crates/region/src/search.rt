@@ -8,12 +8,21 @@ use policy::refusal::Refusal;
 use policy::sides::ROW;
 use policy::sides::SIDES;
 use policy::sides::part_in_row;
+use wire::check::Checked;
+use wire::check::check_file;
+use wire::format::FILED_LIMIT;
+use wire::format::HEAD_SIZE;
+use wire::format::LIST_LIMIT;
+use wire::rows::decode_records;
 ghost use mathlib.Core.Path.{_≡_};
+ghost use Prim.Native.Nat.{_*_, _≤_};
+ghost use lib.ListN.{length};
 ghost use Rattle.policy.specs.Header.{headers};
 ghost use Rattle.policy.specs.Least.{leastIn};
 ghost use Rattle.region.specs.declared.search.Want.the-variants.{CaughtBy};
-ghost use Rattle.policy.specs.Rows.{boxOf, rowsIn};
-ghost use Rattle.region.specs.Search.{treated, foundAnswer, searched};
+ghost use Rattle.policy.specs.Rows.{rowSize, boxOf, rowsIn};
+ghost use Rattle.wire.specs.Format.{headSize, filedLimit, listLimit, fileSize, entriesFrom};
+ghost use Rattle.region.specs.Search.{treated, foundAnswer, searchOf, searched};
 
 // What is looked for.
 pub enum Want {
@@ -68,5 +77,53 @@ fn answer(f: Found) -> Searched
     match f {
         Found::At(h) => Searched::At(h),
         Found::Nothing => Searched::Nothing,
+    }
+}
+
+// The least header of b that a good file's list of n entries treats as wanted. Its records are decoded into the rows that are lent.
+fn search_decoded(file: &[u8], n: usize, rows: &mut [u32], b: &[u32; SIDES], want: Want) -> Found
+    requires { ⌜ (length (now file) ≡ fileSize n) × (rowSize * n ≤ length (now rows)) ⌝ }
+    ensures { λ r. ⌜ r ≡ leastIn headers (boxOf (now (b .entry)) 0) (treated want (entriesFrom (now (file .entry)) headSize n)) ⌝ }
+{
+    decode_records(file, HEAD_SIZE, n, rows);
+    let end = ROW * n;
+    search_rows(&rows[0..end], b, want)
+}
+
+// The same for a list that could be filed: less memory is cleared.
+fn search_short(file: &[u8], n: usize, b: &[u32; SIDES], want: Want) -> Found
+    requires { ⌜ (length (now file) ≡ fileSize n) × (n ≤ filedLimit) ⌝ }
+    ensures { λ r. ⌜ r ≡ leastIn headers (boxOf (now (b .entry)) 0) (treated want (entriesFrom (now (file .entry)) headSize n)) ⌝ }
+{
+    let mut rows = [0u32; ROW * FILED_LIMIT];
+    search_decoded(file, n, &mut rows, b, want)
+}
+
+fn search_long(file: &[u8], n: usize, b: &[u32; SIDES], want: Want) -> Found
+    requires { ⌜ (length (now file) ≡ fileSize n) × (n ≤ listLimit) ⌝ }
+    ensures { λ r. ⌜ r ≡ leastIn headers (boxOf (now (b .entry)) 0) (treated want (entriesFrom (now (file .entry)) headSize n)) ⌝ }
+{
+    let mut rows = [0u32; ROW * LIST_LIMIT];
+    search_decoded(file, n, &mut rows, b, want)
+}
+
+// The same for a list of either length.
+fn search_good(file: &[u8], n: usize, b: &[u32; SIDES], want: Want) -> Found
+    requires { ⌜ (length (now file) ≡ fileSize n) × (n ≤ listLimit) ⌝ }
+    ensures { λ r. ⌜ r ≡ leastIn headers (boxOf (now (b .entry)) 0) (treated want (entriesFrom (now (file .entry)) headSize n)) ⌝ }
+{
+    if n <= FILED_LIMIT {
+        return search_short(file, n, b, want);
+    }
+    search_long(file, n, b, want)
+}
+
+// Checks 1 to 4, and then the least header of b that the file's list treats as wanted.
+pub fn search_file(file: &[u8], b: &[u32; SIDES], want: Want) -> Searched
+    ensures { λ r. ⌜ searched r ≡ searchOf (now (file .entry)) (boxOf (now (b .entry)) 0) want ⌝ }
+{
+    match check_file(file, LIST_LIMIT) {
+        Checked::Refused(r) => Searched::Refused(r),
+        Checked::Good(n) => answer(search_good(file, n, b, want)),
     }
 }
