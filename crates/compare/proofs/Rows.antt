@@ -1,13 +1,13 @@
 -- The checks of two files in their order, each said of its file.
 -- Assumes nothing.
-use Prim.Native.Nat.{ℕ, _-_}
+use Prim.Native.Nat.{ℕ}
 use mathlib.Core.Path.{_≡_, refl, sym, _∙_, ap, ap₂, subst}
 use mathlib.Core.List.{List, [], _∷_, _++_, map, append-nil}
 use mathlib.Core.Option.{Option, none, some}
-use lib.ListN.{length, take, drop}
 use Rattle.policy.specs.declared.header.Header.{Header}
 use Rattle.policy.specs.declared.header.Found.{Found}
 use Rattle.policy.specs.declared.header.Found.the-variants.{At, Nothing}
+use Rattle.policy.specs.declared.entry.Entry.{Entry}
 use Rattle.policy.specs.declared.refusal.Refusal.{Refusal}
 use Rattle.policy.specs.Header.{headers}
 use Rattle.policy.specs.Policy.{Covering}
@@ -15,11 +15,10 @@ use Rattle.policy.specs.Refusals.{Answer, refusal, accepted, firstOf}
 use Rattle.policy.proofs.Rows.{Pass, refusal-clash}
 use Rattle.wire.specs.declared.check.Checked.{Checked}
 use Rattle.wire.specs.declared.check.Checked.the-variants.{Good, Refused}
-use Rattle.wire.specs.Format.{headSize, listLimit, countIn, listIn}
+use Rattle.wire.specs.Format.{listLimit, countIn, listIn}
 use Rattle.wire.specs.Checks.{checked}
-use Rattle.region.specs.Records.{recordsIn}
 use Rattle.region.specs.ListChecks.{listChecks, listChecksOf}
-use Rattle.region.proofs.ListChecks.{passes-tell, good-passes, lent-records}
+use Rattle.region.proofs.ListChecks.{passes-tell, good-passes}
 use Rattle.compare.specs.Comparison.{FileAnswer, compared, about, excessOf, verdict, comparisonOf}
 use Rattle.compare.specs.declared.files.Compared.the-variants.{Refines, Exceeds, First, Second}
 
@@ -49,10 +48,8 @@ module _ (s t : List ℕ) where
         sym (passed-first 1 (listChecks s listLimit) (map (about 2) (listChecks t listLimit)) (verdict (excessOf (listIn s) (listIn t))) (good-passes s listLimit r n e g))
 
     -- the second list is covering, as least_excess needs it
-    pub second-covers : (q : Checked) (m : ℕ) → checked q ≡ listChecksOf t listLimit → q ≡ Good m → Covering headers (recordsIn (take (length t - headSize) (drop headSize t)))
-    second-covers q m f h =
-        let g = passes-tell t listLimit (good-passes t listLimit q m f h) in
-        subst (Covering headers) (sym (lent-records t listLimit (countIn t) (g .good))) (g .covering)
+    pub second-covers : (q : Checked) (m : ℕ) (p : List Entry) → checked q ≡ listChecksOf t listLimit → q ≡ Good m → p ≡ listIn t → Covering headers p
+    second-covers q m p f h d = subst (Covering headers) (sym d) (passes-tell t listLimit (good-passes t listLimit q m f h) .covering)
 
     pub second-refused : (q : Checked) (x : Refusal) → checked q ≡ listChecksOf t listLimit → q ≡ Refused x → compared (Second x) ≡ comparisonOf s t
     unfolding listChecksOf
@@ -61,11 +58,11 @@ module _ (s t : List ℕ) where
         ∙ ap (λ (l : List (Option FileAnswer)). firstOf l (verdict (excessOf (listIn s) (listIn t)))) (append-nil (map (about 2) (listChecks t listLimit)))
         ∙ second-decides
 
-    module _ (q : Checked) (m : ℕ) (f : checked q ≡ listChecksOf t listLimit) (h : q ≡ Good m) (c : Found)
-        (w : c ≡ excessOf (recordsIn (take (length s - headSize) (drop headSize s))) (recordsIn (take (length t - headSize) (drop headSize t)))) where
+    module _ (q : Checked) (m : ℕ) (f : checked q ≡ listChecksOf t listLimit) (h : q ≡ Good m) (c : Found) (x y : List Entry)
+        (u : x ≡ listIn s) (v : y ≡ listIn t) (w : c ≡ excessOf x y) where
       both-good : verdict c ≡ comparisonOf s t
       both-good =
-          ap verdict (w ∙ ap₂ excessOf (lent-records s listLimit (countIn s) (passes-tell s listLimit (good-passes s listLimit r n e g) .good)) (lent-records t listLimit (countIn t) (passes-tell t listLimit (good-passes t listLimit q m f h) .good)))
+          ap verdict (w ∙ ap₂ excessOf u v)
           ∙ sym (passed-first 2 (listChecks t listLimit) [] (verdict (excessOf (listIn s) (listIn t))) (good-passes t listLimit q m f h))
           ∙ ap (λ (l : List (Option FileAnswer)). firstOf l (verdict (excessOf (listIn s) (listIn t)))) (append-nil (map (about 2) (listChecks t listLimit)))
           ∙ second-decides

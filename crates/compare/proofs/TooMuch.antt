@@ -1,4 +1,4 @@
--- What the loop over the first list's records finds: an entry's part of it by first match in the second list, and then the rest.
+-- What the loop over the first list's rows finds: an entry's part of it by first match in the second list, and then the rest.
 -- Assumes nothing.
 use Prim.Native.Nat.{ℕ, _+_, _*_, _-_, _/_, _<_, _≤_}
 use native.Mathlib.Omega.{arith}
@@ -11,22 +11,20 @@ use lib.Seq.{take-suc, take-at, drop-cons}
 use Rattle.policy.specs.declared.header.Header.{Header}
 use Rattle.policy.specs.declared.header.Found.{Found}
 use Rattle.policy.specs.declared.header.Found.the-variants.{Nothing}
-use Rattle.policy.specs.declared.region.Region.{Region}
 use Rattle.policy.specs.declared.entry.Entry.{Entry}
 use Rattle.policy.specs.Box.{meet}
-use Rattle.policy.specs.Header.{arity, fields, Box, lies, ranges, everything, Headers, headers}
+use Rattle.policy.specs.Header.{arity, fields, Box, lies, everything, Headers, headers}
 use Rattle.policy.specs.Found.{lesser}
 use Rattle.policy.specs.Least.{leastIn}
 use Rattle.policy.specs.Entry.{selector}
 use Rattle.policy.specs.Policy.{Allowed, actions, uncaught, allowed, isCaught, missed, exceeds, Covering}
+use Rattle.policy.specs.Rows.{rowSize, boxOf, rowAt, rowsFrom, rowsIn}
 use Rattle.policy.proofs.Bool.{clash}
 use Rattle.policy.proofs.Box.{meet-is}
+use Rattle.policy.proofs.Slices.{length-rows, rows-at, rows-split}
 use Rattle.policy.proofs.Least.{agree, lesser-assoc, lesser-comm, lesser-last}
-use Rattle.wire.specs.Format.{recordSize, entryAt, entriesFrom}
-use Rattle.wire.proofs.Entries.{length-entries, entries-at, entries-split}
 use Rattle.region.specs.declared.treated.Sets.{Sets}
 use Rattle.region.specs.declared.treated.Sets.the-variants.{Lacking}
-use Rattle.region.specs.Records.{recordsIn}
 use Rattle.region.specs.Treated.{judged}
 use Rattle.region.proofs.Union.{in-everything, least-everywhere}
 use Rattle.region.proofs.Uses.{exceeds-step, exceeds-end}
@@ -51,42 +49,42 @@ covered hs p front b q c =
     go uncaught e = clash e refl
 
 module _ (s t : List ℕ) where
-  -- what is left to be found behind the first i records of the first list
+  -- what is left to be found behind the first i rows of the first list
   abbrev rest : ℕ → Found
-  rest i = leastIn headers everything (λ h. missed (take i (recordsIn s)) h && exceeds (drop i (recordsIn s)) (recordsIn t) h)
+  rest i = leastIn headers everything (λ h. missed (take i (rowsIn s)) h && exceeds (drop i (rowsIn s)) (rowsIn t) h)
 
   -- with that, what was found so far is the answer
   abbrev pub FoundUpTo : Found → ℕ → Type 0
   FoundUpTo found i =
-      excessOf (recordsIn s) (recordsIn t) ≡ lesser (leastIn headers everything (λ h. missed (take i (recordsIn s)) h && exceeds (drop i (recordsIn s)) (recordsIn t) h)) found
+      excessOf (rowsIn s) (rowsIn t) ≡ lesser (leastIn headers everything (λ h. missed (take i (rowsIn s)) h && exceeds (drop i (rowsIn s)) (rowsIn t) h)) found
 
   pub found-none : FoundUpTo Nothing 0
-  found-none = sym (lesser-last (rest 0) ∙ least-everywhere headers (exceeds (recordsIn s) (recordsIn t)))
+  found-none = sym (lesser-last (rest 0) ∙ least-everywhere headers (exceeds (rowsIn s) (rowsIn t)))
 
-  pub found-next : (found r : Found) (i set : ℕ) (sel : Region) → i < length s / recordSize → FoundUpTo found i
-      → ranges sel ≡ selector (entryAt s (recordSize * i)) → set ≡ entryAt s (recordSize * i) .actions
-      → Covering headers (recordsIn t)
-      → r ≡ lesser (leastIn headers (ranges sel) (λ h. missed (recordsIn (take (recordSize * i - 0) s)) h && judged (Lacking set) false (allowed (recordsIn t) h))) found
+  pub found-next : (found r : Found) (i set : ℕ) (b : Box) → i < length s / rowSize → FoundUpTo found i
+      → b ≡ boxOf s (rowSize * i) → set ≡ rowAt s (rowSize * i) .actions
+      → Covering headers (rowsIn t)
+      → r ≡ lesser (leastIn headers b (λ h. missed (rowsIn (take (rowSize * i - 0) s)) h && judged (Lacking set) false (allowed (rowsIn t) h))) found
       → FoundUpTo r (i + 1)
-  found-next found r i set sel l e u v k f =
+  found-next found r i set b l e u v k f =
       e
       ∙ ap (λ (c : Found). lesser c found)
-      (ap (λ (p : List Entry). leastIn headers everything (λ h. missed (take i (recordsIn s)) h && exceeds p (recordsIn t) h)) suffix
-      ∙ exceeds-step headers everything (take i (recordsIn s)) x (drop (i + 1) (recordsIn s)) (recordsIn t)
-      ∙ ap₂ lesser (everywhere headers (selector x) (λ h. missed (take i (recordsIn s)) h && judged (Lacking (x .actions)) true (allowed (recordsIn t) h)))
-      (ap (λ (p : List Entry). leastIn headers everything (λ h. missed p h && exceeds (drop (i + 1) (recordsIn s)) (recordsIn t) h)) (sym prefix))
+      (ap (λ (p : List Entry). leastIn headers everything (λ h. missed (take i (rowsIn s)) h && exceeds p (rowsIn t) h)) suffix
+      ∙ exceeds-step headers everything (take i (rowsIn s)) x (drop (i + 1) (rowsIn s)) (rowsIn t)
+      ∙ ap₂ lesser (everywhere headers (selector x) (λ h. missed (take i (rowsIn s)) h && judged (Lacking (x .actions)) true (allowed (rowsIn t) h)))
+      (ap (λ (p : List Entry). leastIn headers everything (λ h. missed p h && exceeds (drop (i + 1) (rowsIn s)) (rowsIn t) h)) (sym prefix))
       ∙ lesser-comm own (rest (i + 1)))
       ∙ lesser-assoc (rest (i + 1)) own found
       ∙ ap (lesser (rest (i + 1))) (sym (f ∙ ap (λ (c : Found). lesser c found) same))
     where
       x : Entry
-      x = entryAt s (recordSize * i)
+      x = rowAt s (rowSize * i)
 
       own : Found
-      own = leastIn headers (selector x) (λ h. missed (take i (recordsIn s)) h && judged (Lacking (x .actions)) true (allowed (recordsIn t) h))
+      own = leastIn headers (selector x) (λ h. missed (take i (rowsIn s)) h && judged (Lacking (x .actions)) true (allowed (rowsIn t) h))
 
-      short : i < length (recordsIn s)
-      short = go (length s / recordSize) (length (recordsIn s)) l (length-entries s 0 (length s / recordSize))
+      short : i < length (rowsIn s)
+      short = go (length s / rowSize) (length (rowsIn s)) l (length-rows s 0 (length s / rowSize))
         where
           go : (n m : ℕ) → i < n → m ≡ n → i < m
           go n m l e = omega arith
@@ -100,30 +98,30 @@ module _ (s t : List ℕ) where
       small : (n : ℕ) → i < n → i ≤ n
       small n l = omega arith
 
-      here : getD (recordsIn s) i (entryAt s 0) ≡ x
-      here = entries-at s 0 (length s / recordSize) i (entryAt s 0) l ∙ ap (entryAt s) (at-start (recordSize * i))
+      here : getD (rowsIn s) i (rowAt s 0) ≡ x
+      here = rows-at s 0 (length s / rowSize) i (rowAt s 0) l ∙ ap (rowAt s) (at-start (rowSize * i))
 
-      prefix : take (i + 1) (recordsIn s) ≡ take i (recordsIn s) ++ x ∷ []
-      prefix = ap (λ (n : ℕ). take n (recordsIn s)) (add-one i) ∙ take-suc (recordsIn s) i (entryAt s 0) short ∙ ap (λ (e : Entry). take i (recordsIn s) ++ e ∷ []) here
+      prefix : take (i + 1) (rowsIn s) ≡ take i (rowsIn s) ++ x ∷ []
+      prefix = ap (λ (n : ℕ). take n (rowsIn s)) (add-one i) ∙ take-suc (rowsIn s) i (rowAt s 0) short ∙ ap (λ (e : Entry). take i (rowsIn s) ++ e ∷ []) here
 
-      suffix : drop i (recordsIn s) ≡ x ∷ drop (i + 1) (recordsIn s)
-      suffix = drop-cons (recordsIn s) i (entryAt s 0) short ∙ ap₂ (λ (e : Entry) (n : ℕ). e ∷ drop n (recordsIn s)) here (sym (add-one i))
+      suffix : drop i (rowsIn s) ≡ x ∷ drop (i + 1) (rowsIn s)
+      suffix = drop-cons (rowsIn s) i (rowAt s 0) short ∙ ap₂ (λ (e : Entry) (n : ℕ). e ∷ drop n (rowsIn s)) here (sym (add-one i))
 
-      first : entriesFrom s 0 i ≡ take i (recordsIn s)
-      first = sym (ap (take i) (ap (entriesFrom s 0) (parts (length s / recordSize) l) ∙ entries-split s 0 i (length s / recordSize - i)) ∙ take-at (entriesFrom s 0 i) (entriesFrom s (0 + recordSize * i) (length s / recordSize - i)) i (length-entries s 0 i))
+      first : rowsFrom s 0 i ≡ take i (rowsIn s)
+      first = sym (ap (take i) (ap (rowsFrom s 0) (parts (length s / rowSize) l) ∙ rows-split s 0 i (length s / rowSize - i)) ∙ take-at (rowsFrom s 0 i) (rowsFrom s (0 + rowSize * i) (length s / rowSize - i)) i (length-rows s 0 i))
         where
           parts : (n : ℕ) → i < n → n ≡ i + (n - i)
           parts n l = omega arith
 
-      same : leastIn headers (ranges sel) (λ h. missed (recordsIn (take (recordSize * i - 0) s)) h && judged (Lacking set) false (allowed (recordsIn t) h)) ≡ own
-      same = covered headers (recordsIn t) (recordsIn (take (recordSize * i - 0) s)) (ranges sel) (Lacking set) k ∙ ap₂ (λ (b : Box) (P : Header → Bool). leastIn headers b P) u
-          (fun-ext λ h. ap₂ (λ (p : List Entry) (n : ℕ). missed p h && judged (Lacking n) true (allowed (recordsIn t) h)) (firsts-in s i (recordSize * i - 0) (small (length s / recordSize) l) (no-start (recordSize * i)) ∙ first) v)
+      same : leastIn headers b (λ h. missed (rowsIn (take (rowSize * i - 0) s)) h && judged (Lacking set) false (allowed (rowsIn t) h)) ≡ own
+      same = covered headers (rowsIn t) (rowsIn (take (rowSize * i - 0) s)) b (Lacking set) k ∙ ap₂ (λ (b : Box) (P : Header → Bool). leastIn headers b P) u
+          (fun-ext λ h. ap₂ (λ (p : List Entry) (n : ℕ). missed p h && judged (Lacking n) true (allowed (rowsIn t) h)) (firsts-in s i (rowSize * i - 0) (small (length s / rowSize) l) (no-start (rowSize * i)) ∙ first) v)
 
-  pub found-all : (found : Found) (i : ℕ) → length s / recordSize ≤ i → FoundUpTo found i → found ≡ excessOf (recordsIn s) (recordsIn t)
+  pub found-all : (found : Found) (i : ℕ) → length s / rowSize ≤ i → FoundUpTo found i → found ≡ excessOf (rowsIn s) (rowsIn t)
   found-all found i l e =
       sym (e ∙ ap (λ (c : Found). lesser c found)
-      (ap (λ (p : List Entry). leastIn headers everything (λ h. missed (take i (recordsIn s)) h && exceeds p (recordsIn t) h)) (drop-of-length-le (recordsIn s) (long (length s / recordSize) (length (recordsIn s)) (length-entries s 0 (length s / recordSize)) l))
-      ∙ exceeds-end headers everything (take i (recordsIn s)) (recordsIn t)))
+      (ap (λ (p : List Entry). leastIn headers everything (λ h. missed (take i (rowsIn s)) h && exceeds p (rowsIn t) h)) (drop-of-length-le (rowsIn s) (long (length s / rowSize) (length (rowsIn s)) (length-rows s 0 (length s / rowSize)) l))
+      ∙ exceeds-end headers everything (take i (rowsIn s)) (rowsIn t)))
     where
       long : (n m : ℕ) → m ≡ n → n ≤ i → m ≤ i
       long n m e l = omega arith

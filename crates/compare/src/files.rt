@@ -3,11 +3,17 @@ use crate::excess::least_excess;
 use policy::header::Found;
 use policy::header::Header;
 use policy::refusal::Refusal;
-use region::covering::check_list;
+use policy::sides::ROW;
+use region::covering::check_rows;
 use wire::check::Checked;
-use wire::format::HEAD_SIZE;
+use wire::format::FILED_LIMIT;
 use wire::format::LIST_LIMIT;
+use wire::format::RECORD_SIZE;
 ghost use mathlib.Core.Path.{_≡_};
+ghost use Prim.Native.Nat.{_*_, _/_, _≤_, min};
+ghost use lib.ListN.{length};
+ghost use Rattle.policy.specs.Rows.{rowSize};
+ghost use Rattle.wire.specs.Format.{recordSize, filedLimit, listLimit};
 ghost use Rattle.compare.specs.Comparison.{compared, comparisonOf};
 
 pub enum Compared {
@@ -20,18 +26,54 @@ pub enum Compared {
     Second(Refusal),
 }
 
+// Whether the first file refines the second, or the least header where it does not; or why a file is refused. Each is decoded into the rows
+// that are lent for it.
+fn compare_decoded(first: &[u8], second: &[u8], p: &mut [u32], q: &mut [u32]) -> Compared
+    requires { ⌜ (rowSize * min (length (now first) / recordSize) listLimit ≤ length (now p)) × (rowSize * min (length (now second) / recordSize) listLimit ≤ length (now q)) ⌝ }
+    ensures { λ r. ⌜ compared r ≡ comparisonOf (now (first .entry)) (now (second .entry)) ⌝ }
+{
+    match check_rows(first, p) {
+        Checked::Refused(r) => Compared::First(r),
+        Checked::Good(n) => match check_rows(second, q) {
+            Checked::Refused(r) => Compared::Second(r),
+            Checked::Good(m) => {
+                let i = ROW * n;
+                let j = ROW * m;
+                match least_excess(&p[0..i], &q[0..j]) {
+                    Found::Nothing => Compared::Refines,
+                    Found::At(h) => Compared::Exceeds(h),
+                }
+            }
+        },
+    }
+}
+
+// The same of files no longer than filed ones: less memory is cleared.
+fn compare_short(first: &[u8], second: &[u8]) -> Compared
+    requires { ⌜ (length (now first) / recordSize ≤ filedLimit) × (length (now second) / recordSize ≤ filedLimit) ⌝ }
+    ensures { λ r. ⌜ compared r ≡ comparisonOf (now (first .entry)) (now (second .entry)) ⌝ }
+{
+    let mut p = [0u32; ROW * FILED_LIMIT];
+    let mut q = [0u32; ROW * FILED_LIMIT];
+    compare_decoded(first, second, &mut p, &mut q)
+}
+
+fn compare_long(first: &[u8], second: &[u8]) -> Compared
+    ensures { λ r. ⌜ compared r ≡ comparisonOf (now (first .entry)) (now (second .entry)) ⌝ }
+{
+    let mut p = [0u32; ROW * LIST_LIMIT];
+    let mut q = [0u32; ROW * LIST_LIMIT];
+    compare_decoded(first, second, &mut p, &mut q)
+}
+
 // Whether the first file refines the second, or the least header where it does not; or why a file is refused.
 pub fn compare_files(first: &[u8], second: &[u8]) -> Compared
     ensures { λ r. ⌜ compared r ≡ comparisonOf (now (first .entry)) (now (second .entry)) ⌝ }
 {
-    match check_list(first, LIST_LIMIT) {
-        Checked::Refused(r) => Compared::First(r),
-        Checked::Good(_) => match check_list(second, LIST_LIMIT) {
-            Checked::Refused(r) => Compared::Second(r),
-            Checked::Good(_) => match least_excess(&first[HEAD_SIZE..], &second[HEAD_SIZE..]) {
-                Found::Nothing => Compared::Refines,
-                Found::At(h) => Compared::Exceeds(h),
-            },
-        },
+    if first.len() / RECORD_SIZE <= FILED_LIMIT {
+        if second.len() / RECORD_SIZE <= FILED_LIMIT {
+            return compare_short(first, second);
+        }
     }
+    compare_long(first, second)
 }

@@ -2,7 +2,7 @@
 -- Assumes nothing.
 use Prim.Native.Nat.{ℕ, _+_, _*_, _-_, _≤_, _<_}
 use native.Mathlib.Omega.{arith}
-use mathlib.Core.Path.{_≡_, sym, _∙_, ap, ap₂}
+use mathlib.Core.Path.{_≡_, sym, _∙_, ap, ap₂, subst}
 use mathlib.Core.Bool.{Bool, true}
 use mathlib.Core.List.{List, [], _∷_}
 use mathlib.Core.Option.{Option, none, some}
@@ -31,7 +31,7 @@ use Rattle.wire.specs.Checks.{missized, badVersion, badCount, firstCrossed, ref
 use Rattle.wire.proofs.Checked.{GoodFile, accepted-tells, good-tells, refused-tells}
 use Rattle.wire.proofs.Entries.{length-entries, entries-at}
 use Rattle.region.specs.Corner.{selectorIn}
-use Rattle.region.specs.ListChecks.{gapOf, gapChecked, listChecks, listChecksOf, Decoded}
+use Rattle.region.specs.ListChecks.{gapOf, gapChecked, listChecks, listChecksOf, InRows, Decoded}
 use Rattle.region.proofs.Members.{catches}
 use Rattle.region.proofs.Union.{in-everything}
 
@@ -91,16 +91,15 @@ module _ (s : List ℕ) (limit : ℕ) (r : Checked) (e : checked r ≡ checksOf 
 
   -- and the rows are the list
   pub list-decoded : (n : ℕ) (gap : Found) (q : Checked) (rows : List ℕ) → r ≡ Good n → checked q ≡ gapChecked gap n
-      → rowsIn (take (rowSize * n) rows) ≡ entriesFrom s headSize n → Decoded q rows (listIn s)
+      → InRows rows n (entriesFrom s headSize n) → Decoded q rows (listIn s)
   list-decoded n gap (Refused x) rows g c d = tt
   list-decoded n gap (Good m) rows g c d = go gap c
     where
-      go : (gap : Found) → accepted (m ∷ []) ≡ gapChecked gap n → rowsIn (take (rowSize * m) rows) ≡ listIn s
+      go : (gap : Found) → accepted (m ∷ []) ≡ gapChecked gap n → Decoded (Good m) rows (listIn s)
       go (At h) c = refusal-clash (Gap h) (m ∷ []) (sym c)
       go Nothing c =
-          ap (λ (k : ℕ). rowsIn (take (rowSize * k) rows)) (ap (λ (a : Answer). getD (a .values) 0 0) c)
-          ∙ d
-          ∙ ap (entriesFrom s headSize) (sym (good-tells s limit r n e g .count-is))
+          subst (λ (k : ℕ). Decoded (Good k) rows (listIn s)) (sym (ap (λ (a : Answer). getD (a .values) 0 0) c))
+          (d .0, d .1 ∙ ap (entriesFrom s headSize) (sym (good-tells s limit r n e g .count-is)))
 
 -- ---- what an answer of checks 1 to 5 tells
 
@@ -118,6 +117,17 @@ list-refuses s limit =
   where
     gap : List (Option Answer)
     gap = refuseAt Gap (gapOf (listIn s)) ∷ []
+
+-- where the rows of an accepted list end, and that they are the list, as they are lent
+module _ (r : Checked) (rows : List ℕ) (p : List Entry) (n : ℕ) (d : Decoded r rows p) (g : r ≡ Good n) where
+  told : Decoded (Good n) rows p
+  told = subst (λ (r : Checked). Decoded r rows p) g d
+
+  pub rows-fit : rowSize * n ≤ length rows
+  rows-fit = told .0
+
+  pub rows-decoded : rowsIn (take (rowSize * n - 0) rows) ≡ p
+  rows-decoded = decoded-lent rows p n (told .1)
 
 -- a file that passes: it is a good one, and its list is covering
 pub record GoodList (s : List ℕ) (limit : ℕ) : Type 0 where

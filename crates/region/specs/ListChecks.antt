@@ -1,9 +1,9 @@
 -- Checks 1 to 5 of a file: it holds a covering list (01, "What is turned down").
-use Prim.Native.Nat.{ℕ, _*_}
+use Prim.Native.Nat.{ℕ, _*_, _≤_}
 use mathlib.Core.Path.{_≡_}
 use mathlib.Core.List.{List, [], _∷_, _++_}
 use mathlib.Core.Option.{Option}
-use lib.ListN.{take}
+use lib.ListN.{length, take}
 use Rattle.policy.specs.declared.header.Found.{Found}
 use Rattle.policy.specs.declared.entry.Entry.{Entry}
 use Rattle.policy.specs.declared.refusal.Refusal.the-variants.{Gap}
@@ -33,7 +33,11 @@ listChecks s limit = fileChecks s limit ++ refuseAt Gap (gapOf (listIn s)) ∷ [
 unfoldable pub listChecksOf : List ℕ → ℕ → Answer
 listChecksOf s limit = firstOf (listChecks s limit) (accepted (countIn s ∷ []))
 
--- the first rows are the list, if it was accepted
+-- the first n rows are the list
+abbrev pub InRows : List ℕ → ℕ → List Entry → Type 0
+InRows rows n p = (rowSize * n ≤ length rows) × (rowsIn (take (rowSize * n) rows) ≡ p)
+
+-- they are, if it was accepted
 abbrev pub Decoded : Checked → List ℕ → List Entry → Type 0
-Decoded (Good n) rows p = rowsIn (take (rowSize * n) rows) ≡ p
+Decoded (Good n) rows p = InRows rows n p
 Decoded (Refused r) rows p = Unit {0}

@@ -14,12 +14,12 @@ use wire::rows::record_is_all;
 ghost use mathlib.Core.Path.{_≡_};
 ghost use mathlib.Core.Bool.{true};
 ghost use Prim.Native.Nat.{_*_, _/_, _≤_, min};
-ghost use lib.ListN.{length, take};
+ghost use lib.ListN.{length};
 ghost use Rattle.policy.specs.declared.header.Found.the-variants.{Nothing};
-ghost use Rattle.policy.specs.Rows.{rowSize, rowsIn};
+ghost use Rattle.policy.specs.Rows.{rowSize};
 ghost use Rattle.wire.specs.Format.{headSize, recordSize, filedLimit, listLimit, fileSize, entriesFrom, listIn};
 ghost use Rattle.wire.specs.Checks.{checked};
-ghost use Rattle.region.specs.ListChecks.{gapOf, gapChecked, listChecksOf, Decoded};
+ghost use Rattle.region.specs.ListChecks.{gapOf, gapChecked, listChecksOf, InRows, Decoded};
 
 // Whether the last of the n records of a good file is ALL: then its list has no gap, and none is searched for.
 fn ends_with_all(file: &[u8], n: usize) -> bool
@@ -42,7 +42,7 @@ fn gap_checked(gap: Found, n: usize) -> Checked
 // The gap of a good file of n entries. They are decoded into the rows that are lent.
 fn decoded_gap(file: &[u8], n: usize, rows: &mut [u32]) -> Found
     requires { ⌜ (length (now file) ≡ fileSize n) × ((1 ≤ n) × (rowSize * n ≤ length (now rows))) ⌝ }
-    ensures { λ r. ⌜ (r ≡ gapOf (entriesFrom (now (file .entry)) headSize n)) × (rowsIn (take (rowSize * n) (now (rows .exit))) ≡ entriesFrom (now (file .entry)) headSize n) ⌝ }
+    ensures { λ r. ⌜ (r ≡ gapOf (entriesFrom (now (file .entry)) headSize n)) × InRows (now (rows .exit)) n (entriesFrom (now (file .entry)) headSize n) ⌝ }
 {
     decode_records(file, HEAD_SIZE, n, rows);
     if ends_with_all(file, n) {

@@ -1,4 +1,4 @@
--- What was found, with what the records left can add, is the answer all along (`found-next`); at the end nothing is left.
+-- What was found, with what the rows left can add, is the answer all along (`found-next`); at the end nothing is left.
 -- Assumes nothing.
 use borrow.Author.Needs.{needs}
 use Prim.Native.Nat.{_≤_, _-_}
@@ -19,6 +19,9 @@ loop-holds c = (search needs, search found-none)
 mul-at : tie.Need-mul-at Inv-loop μ-loop
 mul-at c = search needs
 
+row-sides-requires : tie.Need-row-sides-requires Inv-loop μ-loop
+row-sides-requires c κs = search needs
+
 sub-least-treated-behind : tie.Need-sub-least-treated-behind Inv-loop μ-loop
 sub-least-treated-behind c = search needs
 
@@ -28,11 +31,8 @@ part-least-treated-behind-start c = search needs
 part-least-treated-behind-end : tie.Need-part-least-treated-behind-end Inv-loop μ-loop
 part-least-treated-behind-end c = search needs
 
-read-selector-requires : tie.Need-read-selector-requires Inv-loop μ-loop
-read-selector-requires c κs = search needs
-
-read-actions-requires : tie.Need-read-actions-requires Inv-loop μ-loop
-read-actions-requires c κs = search needs
+actions-at-requires : tie.Need-actions-at-requires Inv-loop μ-loop
+actions-at-requires c κs = search needs
 
 least-treated-behind-requires : tie.Need-least-treated-behind-requires Inv-loop μ-loop
 least-treated-behind-requires c κs = search needs
@@ -57,11 +57,11 @@ least-excess-spec =
     μ-loop
     loop-holds
     mul-at
+    row-sides-requires
     sub-least-treated-behind
     part-least-treated-behind-start
     part-least-treated-behind-end
-    read-selector-requires
-    read-actions-requires
+    actions-at-requires
     least-treated-behind-requires
     add-i
     loop-less

@@ -1,4 +1,5 @@
 -- The list has no gap, or its rows are searched.
+use native.Mathlib.Omega.{arith}
 use mathlib.Core.Path.{sym}
 use Rattle.region.proofs.ListChecks.{decoded-lent, decoded-gap}
 use borrow.Author.Needs.{needs}
@@ -15,7 +16,7 @@ same-length : tie.Need-same-length
 same-length c = search needs
 
 returns : tie.Need-returns
-returns c = (sym (c .before .ends-with-all .ensures (c .if1 .taken)), search needs)
+returns c = (sym (c .before .ends-with-all .ensures (c .if1 .taken)), (omega arith, search needs))
 
 mul-end : tie.Need-mul-end
 mul-end c = search needs
@@ -36,7 +37,7 @@ same-length-2 : tie.Need-same-length-2
 same-length-2 c = search needs
 
 returns-2 : tie.Need-returns-2
-returns-2 c = (search (decoded-gap, decoded-lent), search needs)
+returns-2 c = (search (decoded-gap, decoded-lent), (omega arith, search needs))
 
 pub decoded-gap-spec : {M : Type 1} → statement M
 decoded-gap-spec =
