@@ -1,4 +1,5 @@
 // The public search.
+use policy::entry::sides_of;
 use policy::header::Header;
 use policy::refusal::number_of;
 use region::search::Searched;
@@ -7,7 +8,7 @@ use region::search::search_file;
 use wire::format::RECORD_SIZE;
 use wire::header::header_bytes;
 use wire::put::put_bytes;
-use wire::record::read_selector;
+use wire::record::read_entry;
 
 // What is looked for: 0 for uncaught, 1 for caught by the entry of a number, else a set other than it.
 fn want_of(want: u32, value: u16) -> Want {
@@ -41,7 +42,8 @@ pub extern "C" fn measured_search(
     if record.len() < RECORD_SIZE {
         return 512;
     }
-    match search_file(file, read_selector(record, 0), want_of(want, value)) {
+    let b = sides_of(read_entry(record, 0));
+    match search_file(file, &b, want_of(want, value)) {
         Searched::Nothing => 0,
         Searched::At(h) => {
             put_header(buffer, h);
