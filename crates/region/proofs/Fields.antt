@@ -89,17 +89,23 @@ pub end-in : (b s : List ℕ) (f : ℕ) → Short arity f (boxOf b 0) (boxOf s 0
 unfolding boxOf
 end-in b s f o c = (held-low arity f (field b 0) (field s 0) (short-field arity f (boxOf b 0) (boxOf s 0) o) c, short-ends arity f (field b 0) (field s 0) o)
 
-pub end-short : (b s : List ℕ) (f : ℕ) → Short arity f (boxOf b 0) (boxOf s 0) → field s 0 f .high < field b 0 f .high
+end-short : (b s : List ℕ) (f : ℕ) → Short arity f (boxOf b 0) (boxOf s 0) → field s 0 f .high < field b 0 f .high
 unfolding boxOf
 end-short b s f o = short-ends arity f (field b 0) (field s 0) o
+
+pub end-below : (b s : List ℕ) (f x y : ℕ) → Short arity f (boxOf b 0) (boxOf s 0) → x ≡ field s 0 f .high → y ≡ field b 0 f .high → x < y
+end-below b s f x y o p q = less x y (field s 0 f .high) (field b 0 f .high) p q (end-short b s f o)
+  where
+    less : (x y m n : ℕ) → x ≡ m → y ≡ n → m < n → x < y
+    less x y m n p q l = omega arith
 
 module _ (b s : List ℕ) (f x : ℕ) (n : length b ≡ sides) (o : Short arity f (boxOf b 0) (boxOf s 0)) where
   l : f < arity
   l = short-field arity f (boxOf b 0) (boxOf s 0) o
 
-  pub raised-low : holds (boxOf s 0) (boxOf b 0) ≡ true → x ≡ field s 0 f .high → boxOf (set b (2 * f) (x + 1)) 0 ≡ atField above arity f (boxOf b 0) (boxOf s 0)
+  raised : holds (boxOf s 0) (boxOf b 0) ≡ true → x ≡ field s 0 f .high → boxOf (set b (2 * f) (x + 1)) 0 ≡ atField above arity f (boxOf b 0) (boxOf s 0)
   unfolding boxOf
-  raised-low c e = changed above arity f (field b 0) (field s 0) (field (set b (2 * f) (x + 1)) 0) l here other
+  raised c e = changed above arity f (field b 0) (field s 0) (field (set b (2 * f) (x + 1)) 0) l here other
     where
       place : (f n : ℕ) → f < arity → n ≡ sides → 2 * f < n
       place f n l e = omega arith
@@ -124,6 +130,9 @@ module _ (b s : List ℕ) (f x : ℕ) (n : length b ≡ sides) (o : Short arity 
 
           off : (j : ℕ) → 2 * j + 1 + 0 ≡ 2 * f → ⊥
           off j e = omega arith
+
+  pub raised-low : (y : ℕ) → holds (boxOf s 0) (boxOf b 0) ≡ true → x ≡ field s 0 f .high → y ≡ x + 1 → boxOf (set b (2 * f) y) 0 ≡ atField above arity f (boxOf b 0) (boxOf s 0)
+  raised-low y c e p = ap (λ (y : ℕ). boxOf (set b (2 * f) y) 0) p ∙ raised c e
 
   pub lowered-high : x ≡ field s 0 f .high → boxOf (set b (2 * f + 1) x) 0 ≡ atField upTo arity f (boxOf b 0) (boxOf s 0)
   unfolding boxOf

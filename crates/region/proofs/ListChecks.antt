@@ -18,7 +18,7 @@ use Rattle.policy.specs.Header.{arity, Box, lies, Headers, headers, everything}
 use Rattle.policy.specs.Least.{least}
 use Rattle.policy.specs.Entry.{selector}
 use Rattle.policy.specs.Policy.{missed, Covering}
-use Rattle.policy.specs.Refusals.{Answer, refusal, accepted, isAccepted, refuse, refuseAt, firstOf}
+use Rattle.policy.specs.Refusals.{Answer, refusal, accepted, isAccepted, refuse, refuseAt}
 use Rattle.policy.specs.Rows.{rowSize, rowAt, rowsIn}
 use Rattle.policy.proofs.Box.{same-box}
 use Rattle.policy.proofs.Least.{least-none}

@@ -1,9 +1,9 @@
--- What the code's branches show of the search: its answers, what each part above a record is handed, and what is left below.
+-- What the code's branches show of the search: its answers, what each part above a row is handed, and what is left below.
 -- Assumes nothing.
 use Prim.Native.Nat.{ℕ, _<_, _≤_, _-_, _+_, _*_}
 use native.Mathlib.Omega.{arith}
 use mathlib.Core.Path.{_≡_, refl, sym, _∙_, ap, ap₂, subst}
-use mathlib.Core.Logic.{_⊎_, inl, inr}
+use mathlib.Core.Logic.{inl, inr}
 use mathlib.Core.Bool.{Bool, true, false, not, _&&_}
 use mathlib.Core.List.{List}
 use lib.ListN.{length}
@@ -13,7 +13,7 @@ use Rattle.policy.specs.declared.header.Found.the-variants.{At, Nothing}
 use Rattle.policy.specs.declared.entry.Entry.{Entry}
 use Rattle.policy.specs.Box.{inside, proper, lows}
 use Rattle.policy.specs.Cut.{above}
-use Rattle.policy.specs.Header.{arity, fields, header, Box, lies, Headers}
+use Rattle.policy.specs.Header.{arity, fields, header, Box, lies, Headers, headers}
 use Rattle.policy.specs.Found.{lesser}
 use Rattle.policy.specs.Least.{leastIn}
 use Rattle.policy.specs.Policy.{missed}
@@ -23,9 +23,9 @@ use Rattle.policy.proofs.Least.{least-none, lesser-assoc, lesser-comm}
 use Rattle.policy.proofs.Branch.{corner}
 use Rattle.region.specs.declared.pick.Picked.{Picked}
 use Rattle.region.specs.declared.pick.Picked.the-variants.{Held, Free, Covered}
-use Rattle.region.specs.Corner.{Within, improves, holds, selectorIn, Picks, meeting}
+use Rattle.region.specs.Corner.{Within, improves, holds, reaches, selectorIn, Picks, PicksBefore, meeting}
 use Rattle.region.specs.Pieces.{upTo, atField, Short, Next}
-use Rattle.region.specs.Searched.{Same, Part, Searched, Sorted}
+use Rattle.region.specs.Parts.{Searchable, Ready, Same, Parted}
 use Rattle.region.proofs.Split.{split, upper-part, upper-outside, upper-proper, lower-part, lower-lows, lower-holds, shorts, shorts-fall}
 use Rattle.region.proofs.Meeting.{meets-corner, meeting-le, meeting-lt}
 use Rattle.region.proofs.Fields.{next-short, next-reaches}
@@ -33,196 +33,224 @@ use Rattle.region.proofs.Opening.{improved, pruned}
 use Rattle.region.proofs.Members.{catches}
 use Rattle.region.proofs.Choosing.{inside-all}
 
--- a box that the selector s is to be cut off: s is an entry's and holds its low corner, its rows are headers, and at most so many entries meet it
-pub record Ready (hs : Headers) (es : List Entry) (s b : Box) (left : ℕ) : Type 0 where
-  pub number : ℕ
-  pub listed : number < length es
-  pub its : s ≡ selectorIn es number
-  pub corner-held : holds s b ≡ true
-  pub is-proper : proper arity b ≡ true
-  pub all-headers : Within hs b
-  pub few : meeting es b ≤ left
-
 -- none of the box is missed
 covered-none : (hs : Headers) (P : Header → Bool) (b : Box) → ((h : Header) → lies b h ≡ true → P h ≡ false) → leastIn hs b P ≡ Nothing
 unfolding leastIn
 covered-none hs P b c = least-none hs (λ h. lies b h && P h) λ g a. is-false (lies b g && P g) λ i. clash (and-right (lies b g) (P g) i) (c g (and-left (lies b g) (P g) i))
 
+-- ---- the pick
+
+module _ (es : List Entry) (x : Box) (best : Found) (c : Header) (t : Bool) (p : c ≡ header (lows arity x)) (e : t ≡ improves c best) where
+  improves-is : (u : Bool) → t ≡ u → improves (header (lows arity x)) best ≡ u
+  improves-is u q = ap (λ (h : Header). improves h best) (sym p) ∙ sym e ∙ q
+
+  pub pruned-before : not t ≡ true → best ≡ lesser (leastIn headers x (missed es)) best
+  pruned-before n = pruned headers (missed es) x best (improves-is false (not-true n))
+
+  pub picked-before : (r : Picked) → proper arity x ≡ true → Within headers x → not t ≡ false → Picks es x r → PicksBefore es x best r
+  picked-before (Held i) i-proper w n y = y
+  picked-before Free i-proper w n y =
+      improved (header (lows arity x)) best (improves-is true (not-false n))
+      ∙ ap (λ (r : Found). lesser r best) (sym (corner headers x (missed es) w i-proper y))
+  picked-before Covered i-proper w n y = ap (λ (r : Found). lesser r best) (sym (covered-none headers (missed es) x y))
+
 module _ (hs : Headers) (es : List Entry) where
-  -- ---- the answers
-
-  pub found-covered : (x : Box) (best : Found) (r : Picked) → Picks es x r → r ≡ Covered → best ≡ lesser (leastIn hs x (missed es)) best
-  found-covered x best r y q = ap (λ (r : Found). lesser r best) (sym (covered-none hs (missed es) x (subst (Picks es x) q y)))
-
-  pub found-pruned : (x : Box) (best : Found) (c : Header) (t : Bool) → c ≡ header (lows arity x) → t ≡ improves c best → not t ≡ true
-      → best ≡ lesser (leastIn hs x (missed es)) best
-  found-pruned x best c t p e q = pruned hs (missed es) x best (ap (λ (h : Header). improves h best) (sym p) ∙ sym e ∙ not-true q)
-
-  pub found-corner : (x : Box) (best : Found) (c : Header) (t : Bool) (r : Picked) → Within hs x → proper arity x ≡ true
-      → c ≡ header (lows arity x) → t ≡ improves c best → not t ≡ false → Picks es x r → r ≡ Free
-      → At c ≡ lesser (leastIn hs x (missed es)) best
-  found-corner x best c t r w p g i j y q =
-      ap At g
-      ∙ improved (header (lows arity x)) best (ap (λ (h : Header). improves h best) (sym g) ∙ sym i ∙ not-false j)
-      ∙ ap (λ (r : Found). lesser r best) (sym (corner hs x (missed es) w p (subst (Picks es x) q y)))
-
   -- ---- the cuts
 
-  pub ready : (x s : Box) (i left : ℕ) (r : Picked) → Picks es x r → r ≡ Held i → s ≡ selectorIn es i → proper arity x ≡ true → Within hs x → meeting es x ≤ left → Ready hs es s x left
-  ready x s i left r y q e p w m = record {
-    number = i;
-    listed = held .0;
-    its = e;
-    corner-held = ap (λ (s : Box). holds s x) e ∙ held .1;
-    is-proper = p;
-    all-headers = w;
-    few = m;
-  }
-    where
-      held : Picks es x (Held i)
-      held = subst (Picks es x) q y
+  -- a part of the box that fewer entries meet
+  abbrev pub Piece : ℕ → Box → Type 0
+  Piece left p = (1 ≤ left) × Searchable hs es p (left - 1)
 
   module _ (s b : Box) (left f : ℕ) (d : Ready hs es s b left) (n : Next b s f) where
-    falls : (p : Box) → f < arity → p ≡ atField above arity f b s → meeting es p < meeting es b
-    falls p l e =
-        subst (λ (p : Box). meeting es p < meeting es b) (sym e)
-        (meeting-lt (atField above arity f b s) b (upper-part f b s o) s (upper-outside f b s o) (meets-corner b s (d .is-proper) (d .corner-held)) es (d .number) (d .listed) (d .its))
+    -- a field is short, unless s reaches all of b
+    pub next-field : reaches arity s b ≡ false → f < arity
+    next-field r = go n
       where
-        o : Short arity f b s
-        o = next-short f b s n l
+        go : Next b s f → f < arity
+        go (inl p) = p .0
+        go (inr p) = clash (p .1) r
 
-    -- the part above
-    pub piece-proper : (p : Box) → f < arity → p ≡ atField above arity f b s → proper arity p ≡ true
-    piece-proper p l e = subst (λ (p : Box). proper arity p ≡ true) (sym e) (upper-proper arity f b s (next-short f b s n l) (d .is-proper))
+    module _ (l : f < arity) where
+      o : Short arity f b s
+      o = next-short f b s n l
 
-    pub piece-headers : (p : Box) → f < arity → p ≡ atField above arity f b s → Within hs p
-    piece-headers p l e = subst (Within hs) (sym e) λ h i. d .all-headers h (upper-part f b s (next-short f b s n l) (fields h) i)
+      -- the part above
+      piece : (p : Box) → p ≡ atField above arity f b s → Piece left p
+      piece p e = subst (Piece left) (sym e) (
+        some m k left falls (d .box .few),
+        record {
+          is-proper = upper-proper arity f b s o (d .box .is-proper);
+          all-headers = λ h i. d .box .all-headers h (upper-part f b s o (fields h) i);
+          few = less m k left falls (d .box .few);
+        },
+      )
+        where
+          upper : Box
+          upper = atField above arity f b s
 
-    pub piece-few : (p : Box) → f < arity → p ≡ atField above arity f b s → meeting es p ≤ left - 1
-    piece-few p l e = less (meeting es p) (meeting es b) left (falls p l e) (d .few)
-      where
-        less : (i j left : ℕ) → i < j → j ≤ left → i ≤ left - 1
-        less i j left p q = omega arith
+          m : ℕ
+          m = meeting es upper
 
-    pub some-left : f < arity → 1 ≤ left
-    some-left l = some (meeting es (atField above arity f b s)) (meeting es b) left (falls (atField above arity f b s) l refl) (d .few)
-      where
-        some : (i j left : ℕ) → i < j → j ≤ left → 1 ≤ left
-        some i j left p q = omega arith
+          k : ℕ
+          k = meeting es b
 
-    -- the part below
-    pub lower-ready : (p : Box) → f < arity → p ≡ atField upTo arity f b s → Ready hs es s p left
-    lower-ready p l e = subst (λ (p : Box). Ready hs es s p left) (sym e) record {
-      number = d .number;
-      listed = d .listed;
-      its = d .its;
-      corner-held = ap (inside arity s) (lower-lows arity f b s) ∙ d .corner-held;
-      is-proper = in-proper arity lower (lows arity b) (lower-holds arity f b s (d .is-proper) (d .corner-held));
-      all-headers = λ h i. d .all-headers h (lower-part f b s o (fields h) i);
-      few = trans (meeting es lower) (meeting es b) left (meeting-le lower b (lower-part f b s o) es) (d .few);
+          falls : m < k
+          falls = meeting-lt upper b (upper-part f b s o) s (upper-outside f b s o) (meets-corner b s (d .box .is-proper) (d .corner-held)) es (d .number) (d .listed) (d .its)
+
+          some : (i j left : ℕ) → i < j → j ≤ left → 1 ≤ left
+          some i j left p q = omega arith
+
+          less : (i j left : ℕ) → i < j → j ≤ left → i ≤ left - 1
+          less i j left p q = omega arith
+
+      -- the part below
+      lower-ready : (p : Box) → p ≡ atField upTo arity f b s → Ready hs es s p left
+      lower-ready p e = subst (λ (p : Box). Ready hs es s p left) (sym e) record {
+        number = d .number;
+        listed = d .listed;
+        its = d .its;
+        corner-held = ap (inside arity s) (lower-lows arity f b s) ∙ d .corner-held;
+        box = record {
+          is-proper = in-proper arity lower (lows arity b) (lower-holds arity f b s (d .box .is-proper) (d .corner-held));
+          all-headers = λ h i. d .box .all-headers h (lower-part f b s o (fields h) i);
+          few = trans (meeting es lower) (meeting es b) left (meeting-le lower b (lower-part f b s o) es) (d .box .few);
+        };
+      }
+        where
+          lower : Box
+          lower = atField upTo arity f b s
+
+          trans : (i j k : ℕ) → i ≤ j → j ≤ k → i ≤ k
+          trans i j k p q = omega arith
+
+      cuts-fall : (p : Box) → p ≡ atField upTo arity f b s → shorts arity p s < shorts arity b s
+      cuts-fall p e = subst (λ (p : Box). shorts arity p s < shorts arity b s) (sym e) (shorts-fall arity f b s o)
+
+      -- what is missed of b is missed of the two parts
+      parts : (lower upper : Box) (r : Found) → upper ≡ atField above arity f b s → lower ≡ atField upTo arity f b s
+          → lesser (leastIn hs b (missed es)) r ≡ lesser (leastIn hs lower (missed es)) (lesser (leastIn hs upper (missed es)) r)
+      parts lower upper r e k =
+          ap (λ (q : Found). lesser q r) (split f b s o hs (missed es))
+          ∙ lesser-assoc (leastIn hs (atField upTo arity f b s) (missed es)) (leastIn hs (atField above arity f b s) (missed es)) r
+          ∙ sym (ap₂ (λ (p q : Box). lesser (leastIn hs p (missed es)) (lesser (leastIn hs q (missed es)) r)) k e)
+
+  -- what is missed of the rest and of the part that is kept, below the finding
+  abbrev pub Both : Box → Box → Found → Found
+  Both rest kept found = lesser (leastIn hs rest (missed es)) (lesser (leastIn hs kept (missed es)) found)
+
+  module _ (s b : Box) (left f : ℕ) (d : Ready hs es s b left) (n : Next b s f) (l : f < arity) (lower upper : Box)
+      (e : upper ≡ atField above arity f b s) (k : lower ≡ atField upTo arity f b s) where
+    -- the first part is kept
+    kept-first : (best : Found) → lesser (leastIn hs b (missed es)) best ≡ Both lower upper best
+    kept-first best = parts s b left f d n l lower upper best e k
+
+    -- of two, one is kept and the other is searched
+    module _ (kept : Box) (found new : Found) where
+      kept-again : new ≡ lesser (leastIn hs upper (missed es)) found → Both b kept found ≡ Both lower kept new
+      kept-again w =
+          parts s b left f d n l lower upper (lesser K found) e k
+          ∙ ap (lesser (leastIn hs lower (missed es)))
+          (sym (lesser-assoc U K found) ∙ ap (λ (r : Found). lesser r found) (lesser-comm U K) ∙ lesser-assoc K U found ∙ ap (lesser K) (sym w))
+        where
+          U : Found
+          U = leastIn hs upper (missed es)
+
+          K : Found
+          K = leastIn hs kept (missed es)
+
+      kept-anew : new ≡ lesser (leastIn hs kept (missed es)) found → Both b kept found ≡ Both lower upper new
+      kept-anew w =
+          parts s b left f d n l lower upper (lesser (leastIn hs kept (missed es)) found) e k
+          ∙ ap (λ (r : Found). lesser (leastIn hs lower (missed es)) (lesser (leastIn hs upper (missed es)) r)) (sym w)
+
+  -- s holds all of b
+  reached-none : (s b : Box) (left : ℕ) → Ready hs es s b left → reaches arity s b ≡ true → leastIn hs b (missed es) ≡ Nothing
+  reached-none s b left d r = covered-none hs (missed es) b λ h i.
+      catches es (d .number) (d .listed) h (ap (λ (s : Box). lies s h) (sym (d .its)) ∙ inside-all arity s b (fields h) (d .corner-held) r i)
+
+  -- the loop over the cuts: x is cut, one part is kept, and the others were searched since x was b and the part c
+  pub record Cutting (s : Box) (left : ℕ) (b c : Box) (best : Found) (x kept : Box) (found : Found) (f : ℕ) : Type 0 where
+    pub next : Next x s f
+    pub ready : Ready hs es s x left
+    pub piece : Piece left kept
+    pub same : Both b c best ≡ Both x kept found
+
+  module _ (s b : Box) (left f g : ℕ) (d : Ready hs es s b left) (n : Next b s f) (l : f < arity) (lower upper : Box)
+      (e : upper ≡ atField above arity f b s) (k : lower ≡ atField upTo arity f b s) (m : Next lower s g) where
+    pub cutting-first : (best : Found) → Cutting s left lower upper best lower upper best g
+    cutting-first best = record { next = m; ready = lower-ready s b left f d n l lower k; piece = piece s b left f d n l upper e; same = refl }
+
+    pub parted : (best : Found) (x kept : Box) (found : Found) (h : ℕ) → Cutting s left lower upper best x kept found h → arity ≤ h → Parted hs es b best left kept found
+    parted best x kept found h c q = record {
+      some = c .piece .0;
+      box = c .piece .1;
+      same =
+          kept-first s b left f d n l lower upper e k best
+          ∙ c .same
+          ∙ ap (λ (r : Found). lesser r (lesser (leastIn hs kept (missed es)) found)) (reached-none s x left (c .ready) (next-reaches h x s (c .next) q));
     }
-      where
-        o : Short arity f b s
-        o = next-short f b s n l
 
-        lower : Box
-        lower = atField upTo arity f b s
+  -- the part above the next cut
+  pub cutting-piece : (s : Box) (left : ℕ) (b c : Box) (best : Found) (x kept : Box) (found : Found) (f : ℕ) → Cutting s left b c best x kept found f → f < arity
+      → (upper : Box) → upper ≡ atField above arity f x s → Searchable hs es upper (left - 1)
+  cutting-piece s left b c best x kept found f o l upper e = piece s x left f (o .ready) (o .next) l upper e .1
 
-        trans : (i j k : ℕ) → i ≤ j → j ≤ k → i ≤ k
-        trans i j k p q = omega arith
+  module _ (s : Box) (left : ℕ) (b c : Box) (best : Found) (x kept : Box) (found : Found) (f g : ℕ) (o : Cutting s left b c best x kept found f) (l : f < arity)
+      (lower upper : Box) (e : upper ≡ atField above arity f x s) (k : lower ≡ atField upTo arity f x s) (m : Next lower s g) where
+    pub cutting-falls : shorts arity lower s < shorts arity x s
+    cutting-falls = cuts-fall s x left f (o .ready) (o .next) l lower k
 
-    pub same-again : (x : Box) (best found new : Found) (lower upper : Box) → f < arity → Same hs es x best b found
-        → upper ≡ atField above arity f b s → lower ≡ atField upTo arity f b s
-        → new ≡ lesser (leastIn hs upper (missed es)) found → Same hs es x best lower new
-    same-again x best found new lower upper l g e k w =
-        g
-        ∙ ap (λ (r : Found). lesser r found) (split f b s (next-short f b s n l) hs (missed es))
-        ∙ lesser-assoc (leastIn hs (atField upTo arity f b s) (missed es)) (leastIn hs (atField above arity f b s) (missed es)) found
-        ∙ sym (ap (λ (p : Box). lesser (leastIn hs p (missed es)) new) k
-        ∙ ap (lesser (leastIn hs (atField upTo arity f b s) (missed es)))
-        (w ∙ ap (λ (p : Box). lesser (leastIn hs p (missed es)) found) e))
+    pub cutting-again : (new : Found) → new ≡ lesser (leastIn hs upper (missed es)) found → Cutting s left b c best lower kept new g
+    cutting-again new w = record {
+      next = m;
+      ready = lower-ready s x left f (o .ready) (o .next) l lower k;
+      piece = o .piece;
+      same = o .same ∙ kept-again s x left f (o .ready) (o .next) l lower upper e k kept found new w;
+    }
 
-    pub cuts-fall : (p : Box) → f < arity → p ≡ atField upTo arity f b s → shorts arity p s < shorts arity b s
-    cuts-fall p l e = subst (λ (p : Box). shorts arity p s < shorts arity b s) (sym e) (shorts-fall arity f b s (next-short f b s n l))
+    pub cutting-anew : (new : Found) → new ≡ lesser (leastIn hs kept (missed es)) found → Cutting s left b c best lower upper new g
+    cutting-anew new w = record {
+      next = m;
+      ready = lower-ready s x left f (o .ready) (o .next) l lower k;
+      piece = piece s x left f (o .ready) (o .next) l upper e;
+      same = o .same ∙ kept-anew s x left f (o .ready) (o .next) l lower upper e k kept found new w;
+    }
 
-    -- nothing is left
-    pub found-all : (x : Box) (best found : Found) → arity ≤ f → Same hs es x best b found → found ≡ lesser (leastIn hs x (missed es)) best
-    found-all x best found l g =
-        sym (g ∙ ap (λ (r : Found). lesser r found) (covered-none hs (missed es) b λ h i.
-        catches es (d .number) (d .listed) h (ap (λ (s : Box). lies s h) (sym (d .its)) ∙ inside-all arity s b (fields h) (d .corner-held) (next-reaches f b s n l) i)))
+-- ---- the loop over what is left of the box
 
-  -- ---- the part that is kept
+-- of b, below best, x is still to be searched
+pub record Open (es : List Entry) (b : Box) (best : Found) (x : Box) (found : Found) (n : ℕ) (picked : Picked) : Type 0 where
+  pub box : Searchable headers es x n
+  pub same : Same headers es b best x found
+  pub pick : PicksBefore es x found picked
 
-  -- it and the part below have what was to be found
-  abbrev pub Both : Box → Found → Box → Box → Found → Type 0
-  Both x best rest kept found = Same hs es x best rest (lesser (leastIn hs kept (missed es)) found)
+module _ (es : List Entry) (b : Box) (best : Found) (x : Box) (found : Found) (n : ℕ) (picked : Picked) (o : Open es b best x found n picked) where
+  pick-is : (q : Picked) → picked ≡ q → PicksBefore es x found q
+  pick-is q e = subst (PicksBefore es x found) e (o .pick)
 
-  module _ (s b : Box) (left f : ℕ) (d : Ready hs es s b left) (n : Next b s f) where
-    pub piece-part : (upper : Box) → f < arity → upper ≡ atField above arity f b s → Part hs es left upper
-    piece-part upper l e = record { is-proper = piece-proper s b left f d n upper l e; all-headers = piece-headers s b left f d n upper l e; few = piece-few s b left f d n upper l e; some = some-left s b left f d n l }
+  pub open-free : (c : Header) → picked ≡ Free → c ≡ header (lows arity x) → At c ≡ lesser (leastIn headers b (missed es)) best
+  open-free c e p = ap At p ∙ pick-is Free e ∙ sym (o .same)
 
-    pub kept-first : (best : Found) (lower upper : Box) → f < arity → upper ≡ atField above arity f b s → lower ≡ atField upTo arity f b s → Both b best lower upper best
-    kept-first best lower upper l e k = same-again s b left f d n b best best (lesser (leastIn hs upper (missed es)) best) lower upper l refl e k refl
+  pub open-covered : picked ≡ Covered → found ≡ lesser (leastIn headers b (missed es)) best
+  open-covered e = pick-is Covered e ∙ sym (o .same)
 
-    pub kept-again : (x : Box) (best found new : Found) (lower upper kept small large : Box) → f < arity → Both x best b kept found
-        → upper ≡ atField above arity f b s → lower ≡ atField upTo arity f b s → Sorted upper kept small large
-        → new ≡ lesser (leastIn hs small (missed es)) found → Both x best lower large new
-    kept-again x best found new lower upper kept small large l h e k o w =
-        same-again s b left f d n x best (lesser K found) (lesser U (lesser K found)) lower upper l h e k refl
-        ∙ ap (lesser (leastIn hs lower (missed es))) (go o)
-      where
-        U : Found
-        U = leastIn hs upper (missed es)
+  module _ (i : ℕ) (e : picked ≡ Held i) where
+    pub open-listed : i < length es
+    open-listed = pick-is (Held i) e .0
 
-        K : Found
-        K = leastIn hs kept (missed es)
+    module _ (s : Box) (p : s ≡ selectorIn es i) where
+      -- the row that was picked is ready to be cut off
+      pub open-ready : Ready headers es s x n
+      open-ready = record { number = i; listed = open-listed; its = p; corner-held = ap (λ (s : Box). holds s x) p ∙ pick-is (Held i) e .1; box = o .box }
 
-        least : Box → Found
-        least p = leastIn hs p (missed es)
+      pub open-unreached : (t : Bool) → t ≡ reaches arity s x → t ≡ false → reaches arity s x ≡ false
+      open-unreached t q r = sym q ∙ r
 
-        go : Sorted upper kept small large → lesser U (lesser K found) ≡ lesser (leastIn hs large (missed es)) new
-        go (inl p) =
-            sym (lesser-assoc U K found) ∙ ap (λ (r : Found). lesser r found) (lesser-comm U K) ∙ lesser-assoc K U found
-            ∙ sym (ap₂ lesser (ap least (p .1)) (w ∙ ap (λ (q : Box). lesser (least q) found) (p .0)))
-        go (inr p) = sym (ap₂ lesser (ap least (p .1)) (w ∙ ap (λ (q : Box). lesser (least q) found) (p .0)))
+      pub open-reached : (t : Bool) → t ≡ reaches arity s x → t ≡ true → found ≡ lesser (leastIn headers b (missed es)) best
+      open-reached t q r = ap (λ (c : Found). lesser c found) (sym (reached-none headers es s x n open-ready (sym q ∙ r))) ∙ sym (o .same)
 
-    pub kept-last : (x : Box) (best found : Found) (kept : Box) → arity ≤ f → Both x best b kept found → Same hs es x best kept found
-    kept-last x best found kept l h = sym (found-all s b left f d n x best (lesser (leastIn hs kept (missed es)) found) l h)
-
-  pub small-part : (left : ℕ) (a b s l : Box) → Sorted a b s l → Part hs es left a → Part hs es left b → Part hs es left s
-  small-part left a b s l (inl p) x y = subst (Part hs es left) (sym (p .0)) x
-  small-part left a b s l (inr p) x y = subst (Part hs es left) (sym (p .0)) y
-
-  pub large-part : (left : ℕ) (a b s l : Box) → Sorted a b s l → Part hs es left a → Part hs es left b → Part hs es left l
-  large-part left a b s l (inl p) x y = subst (Part hs es left) (sym (p .1)) y
-  large-part left a b s l (inr p) x y = subst (Part hs es left) (sym (p .1)) x
-
-  -- ---- the search of the last part
-
-  -- a box that is still to be searched
-  pub record Open (x : Box) (best : Found) (part : Box) (found : Found) (n : ℕ) : Type 0 where
-    pub same : Same hs es x best part found
-    pub is-proper : proper arity part ≡ true
-    pub all-headers : Within hs part
-    pub few : meeting es part ≤ n
-
-  module _ (x : Box) (best : Found) (part : Box) (found : Found) (n : ℕ) (o : Open x best part found n) where
-    module _ (more : Bool) (new : Found) (next : Box) where
-      pub last-done : Searched hs es part found n more new next → not more ≡ true → new ≡ lesser (leastIn hs x (missed es)) best
-      last-done r e =
-          let q : more ≡ false = not-true e in
-          subst (λ (t : Bool). Searched hs es part found n t new next) q r ∙ sym (o .same)
-
-      told : Searched hs es part found n more new next → not more ≡ false → Part hs es n next × Same hs es part found next new
-      told r e =
-          let q : more ≡ true = not-false e in
-          subst (λ (t : Bool). Searched hs es part found n t new next) q r
-
-      pub last-some : Searched hs es part found n more new next → not more ≡ false → 1 ≤ n
-      last-some r e = told r e .0 .some
-
-      pub last-open : Searched hs es part found n more new next → not more ≡ false → Open x best next new (n - 1)
-      last-open r e = record { same = o .same ∙ told r e .1; is-proper = told r e .0 .is-proper; all-headers = told r e .0 .all-headers; few = told r e .0 .few }
+  pub open-again : (rest : Box) (new : Found) (next : Picked) → Parted headers es x found n rest new → PicksBefore es rest new next → Open es b best rest new (n - 1) next
+  open-again rest new next d y = record { box = d .box; same = o .same ∙ d .same; pick = y }
 
 -- the measures of the two functions fall
 pub falls-in : (left n t : ℕ) → 2 * left + 1 ≡ t → n ≤ left → 2 * n < t
@@ -236,6 +264,3 @@ less n l = omega arith
 
 pub under : (n left : ℕ) → n ≤ left → n - 1 ≤ left
 under n left l = omega arith
-
-pub held-listed : (es : List Entry) (x : Box) (i : ℕ) (r : Picked) → Picks es x r → r ≡ Held i → i < length es
-held-listed es x i r y q = subst (Picks es x) q y .0

@@ -13,7 +13,9 @@ use Rattle.policy.specs.declared.entry.Entry.{Entry}
 use Rattle.policy.specs.declared.region.Range.{Range}
 use Rattle.policy.specs.Row.{Row}
 use Rattle.policy.specs.Box.{inside, proper, lows, meet}
-use Rattle.policy.specs.Header.{arity, header, before, Box, lies, Headers, among}
+use Rattle.policy.specs.Header.{arity, header, before, Box, lies, Headers, among, headers}
+use Rattle.policy.specs.Found.{lesser}
+use Rattle.policy.specs.Least.{leastIn}
 use Rattle.policy.specs.Entry.{selector}
 use Rattle.policy.specs.Policy.{missed}
 use Rattle.policy.specs.Rows.{rowSize, boxOf, rowAt, rowsFrom, rowsIn}
@@ -52,6 +54,12 @@ abbrev pub Picks : List Entry → Box → Picked → Type 0
 Picks es b (Held i) = (i < length es) × (holds (selectorIn es i) b ≡ true)
 Picks es b Free = missed es (header (lows arity b)) ≡ true
 Picks es b Covered = Covers es b
+
+-- the same, where a header is looked for that comes before best: the low corner is the least, or there is none
+abbrev pub PicksBefore : List Entry → Box → Found → Picked → Type 0
+PicksBefore es b best (Held i) = (i < length es) × (holds (selectorIn es i) b ≡ true)
+PicksBefore es b best Free = At (header (lows arity b)) ≡ lesser (leastIn headers b (missed es)) best
+PicksBefore es b best Covered = best ≡ lesser (leastIn headers b (missed es)) best
 
 -- the number picked, and the pick behind n entries more
 abbrev pub numberOf : Picked → ℕ

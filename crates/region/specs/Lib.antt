@@ -1,6 +1,6 @@
 pub mod Corner
 pub mod Pieces
-pub mod Searched
+pub mod Parts
 pub mod Treated
 pub mod Search
 pub mod ListChecks

@@ -3,12 +3,19 @@ use Prim.Native.Nat.{ℕ, zero, suc, _<_, _≤_, min}
 use mathlib.Core.Path.{_≡_}
 use mathlib.Core.Logic.{_⊎_}
 use mathlib.Core.Bool.{true}
+use mathlib.Core.List.{List}
+use lib.ListN.{length}
 use Rattle.policy.specs.declared.region.Range.{Range}
 use Rattle.policy.specs.Row.{Row}
 use Rattle.policy.specs.Box.{range}
 use Rattle.policy.specs.Header.{arity, Box}
+use Rattle.policy.specs.Rows.{sides, boxOf}
 use Rattle.region.specs.declared.cut.Candidate.{Candidate}
 use Rattle.region.specs.Corner.{reaches}
+
+-- the sides are those of the box
+abbrev pub IsBox : List ℕ → Box → Type 0
+IsBox r b = (length r ≡ sides) × (boxOf r 0 ≡ b)
 
 -- the part of the range b up to the end of s
 abbrev pub upTo : Range → Range → Range

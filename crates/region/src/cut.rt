@@ -4,31 +4,36 @@ use policy::sides::SIDES;
 use policy::sides::high;
 ghost use mathlib.Core.Path.{_≡_};
 ghost use mathlib.Core.Bool.{true};
-ghost use Prim.Native.Nat.{_<_};
+ghost use Prim.Native.Nat.{_+_, _<_};
+ghost use lib.ListN.{length};
 ghost use Rattle.policy.specs.Cut.{above};
 ghost use Rattle.policy.specs.Header.{arity};
-ghost use Rattle.policy.specs.Rows.{boxOf};
+ghost use Rattle.policy.specs.Rows.{sides, boxOf};
 ghost use Rattle.region.specs.Corner.{holds};
-ghost use Rattle.region.specs.Pieces.{upTo, atField, Short, Next, Offered};
+ghost use Rattle.region.specs.Pieces.{IsBox, upTo, atField, Short, Next, Offered};
 
-// The part of b above s in field number f, in which s ends inside b.
-pub fn upper_part(b: [u32; SIDES], s: &[u32; SIDES], f: usize) -> [u32; SIDES]
-    requires { ⌜ (f < arity) × (Short arity f (boxOf b 0) (boxOf (now s) 0) × (holds (boxOf (now s) 0) (boxOf b 0) ≡ true)) ⌝ }
-    ensures { λ r. ⌜ boxOf r 0 ≡ atField above arity f (boxOf b 0) (boxOf (now (s .entry)) 0) ⌝ }
+// The number after x, which is below top.
+fn next_number(x: u32, top: u32) -> u32
+    requires { ⌜ x < top ⌝ }
+    ensures { λ r. ⌜ r ≡ x + 1 ⌝ }
 {
-    let mut r = b;
-    r[2 * f] = high(s, f) + 1;
-    r
+    x + 1
 }
 
-// The part of b up to the end of s in it.
-pub fn lower_part(b: [u32; SIDES], s: &[u32; SIDES], f: usize) -> [u32; SIDES]
-    requires { ⌜ (f < arity) × Short arity f (boxOf b 0) (boxOf (now s) 0) ⌝ }
-    ensures { λ r. ⌜ boxOf r 0 ≡ atField upTo arity f (boxOf b 0) (boxOf (now (s .entry)) 0) ⌝ }
+// Keeps of b the part above s in field number f, in which s ends inside b.
+pub(crate) fn keep_above(b: &mut [u32; SIDES], s: &[u32; SIDES], f: usize)
+    requires { ⌜ (length (now b) ≡ sides) × ((f < arity) × (Short arity f (boxOf (now b) 0) (boxOf (now s) 0) × (holds (boxOf (now s) 0) (boxOf (now b) 0) ≡ true))) ⌝ }
+    ensures { λ _. ⌜ IsBox (now (b .exit)) (atField above arity f (boxOf (now (b .entry)) 0) (boxOf (now (s .entry)) 0)) ⌝ }
 {
-    let mut r = b;
-    r[2 * f + 1] = high(s, f);
-    r
+    b[2 * f] = next_number(high(s, f), high(b, f));
+}
+
+// Keeps of b the part up to the end of s in it.
+pub(crate) fn keep_up_to(b: &mut [u32; SIDES], s: &[u32; SIDES], f: usize)
+    requires { ⌜ (length (now b) ≡ sides) × ((f < arity) × Short arity f (boxOf (now b) 0) (boxOf (now s) 0)) ⌝ }
+    ensures { λ _. ⌜ IsBox (now (b .exit)) (atField upTo arity f (boxOf (now (b .entry)) 0) (boxOf (now (s .entry)) 0)) ⌝ }
+{
+    b[2 * f + 1] = high(s, f);
 }
 
 // A field's number and its rank.
@@ -54,7 +59,7 @@ fn offer_field(c: Candidate, f: usize, rank: u32, end: u32, high: u32) -> Candid
 }
 
 // A field in which s ends inside b, the one of the least rank, or FIELDS if there is none. Any ranks will do.
-pub fn next_field(b: &[u32; SIDES], s: &[u32; SIDES], ranks: &[u32; FIELDS]) -> usize
+pub(crate) fn next_field(b: &[u32; SIDES], s: &[u32; SIDES], ranks: &[u32; FIELDS]) -> usize
     ensures { λ f. ⌜ Next (boxOf (now (b .entry)) 0) (boxOf (now (s .entry)) 0) f ⌝ }
 {
     let mut best = Candidate {

@@ -1,17 +1,16 @@
 // The least header of a box that no row of two lists matches.
-use crate::corner::is_improved;
 use crate::corner::low_corner;
-use crate::cut::lower_part;
+use crate::cut::keep_above;
+use crate::cut::keep_up_to;
 use crate::cut::next_field;
-use crate::cut::upper_part;
 use crate::headers::HEADER_BOXES;
 use crate::headers::header_box;
+use crate::holds::row_reaches;
 use crate::pick::Picked;
-use crate::pick::pick_of_two;
+use crate::pick::pick_before;
 use crate::pick::row_of_two;
 use crate::rank::rank_fields;
-use crate::size::by_size;
-use crate::size::fewer;
+use crate::size::is_smaller;
 use policy::header::Found;
 use policy::sides::FIELDS;
 use policy::sides::ROW;
@@ -19,121 +18,81 @@ use policy::sides::SIDES;
 use policy::sides::is_proper;
 use policy::sides::part_in_row;
 ghost use mathlib.Core.Path.{_≡_};
-ghost use mathlib.Core.Bool.{true};
+ghost use mathlib.Core.Bool.{false};
 ghost use mathlib.Core.List.{_++_};
-ghost use Prim.Native.Nat.{_≤_};
-ghost use Rattle.policy.specs.Box.{proper};
+ghost use lib.ListN.{length};
 ghost use Rattle.policy.specs.Header.{arity, headers};
 ghost use Rattle.policy.specs.Found.{lesser};
 ghost use Rattle.policy.specs.Least.{leastIn};
 ghost use Rattle.policy.specs.Policy.{missed};
-ghost use Rattle.policy.specs.Rows.{boxOf, rowsIn};
-ghost use Rattle.region.specs.Corner.{Within, meeting};
-ghost use Rattle.region.specs.Searched.{Searched};
+ghost use Rattle.policy.specs.Rows.{sides, boxOf, rowsIn};
+ghost use Rattle.region.specs.Corner.{reaches};
+ghost use Rattle.region.specs.Parts.{Searchable, Ready, Parted};
 
-// The levels of the search in which the parts are compared by their headers.
-const LEVELS: u32 = 16;
-
-// What a search of all parts of a box but one comes to: the finding, and the part that is left, if there is one.
-pub struct Rest {
-    pub found: Found,
-    pub more: bool,
-    pub part: [u32; SIDES],
-}
-
-// Searches x but for the largest part of it. Its low corner is the least, if no row holds it. Else a row that does is cut off x, field by
-// field, and each part above it is searched: the row meets x, and none of these parts. The largest one is handed back, so that a part that is
-// searched by a call has at most half of the headers of x.
+// Cuts s, a row that holds the low corner of x and not all of it, off x, field by field, and searches each part above it but the largest, which
+// it leaves in x. The row meets x, and none of these parts. A part that is searched by a call has at most half of the headers of x.
 fn search_parts(
     a: &[u32],
     b: &[u32],
-    x: &[u32; SIDES],
+    x: &mut [u32; SIDES],
+    s: &[u32; SIDES],
     best: Found,
     left: usize,
-    levels: u32,
-) -> Rest
-    requires { ⌜ (proper arity (boxOf (now x) 0) ≡ true) × (Within headers (boxOf (now x) 0) × (meeting (rowsIn (now a) ++ rowsIn (now b)) (boxOf (now x) 0) ≤ left)) ⌝ }
-    ensures { λ r. ⌜ Searched headers (rowsIn (now (a .entry)) ++ rowsIn (now (b .entry))) (boxOf (now (x .entry)) 0) best left (r .more) (r .found) (boxOf (r .part) 0) ⌝ }
+) -> Found
+    requires { ⌜ (length (now x) ≡ sides) × ((reaches arity (boxOf (now s) 0) (boxOf (now x) 0) ≡ false) × Ready headers (rowsIn (now a) ++ rowsIn (now b)) (boxOf (now s) 0) (boxOf (now x) 0) left) ⌝ }
+    ensures { λ r. ⌜ (length (now (x .exit)) ≡ sides) × Parted headers (rowsIn (now (a .entry)) ++ rowsIn (now (b .entry))) (boxOf (now (x .entry)) 0) best left (boxOf (now (x .exit)) 0) r ⌝ }
 {
-    let c = low_corner(x);
-    if !is_improved(c, best) {
-        return Rest {
-            found: best,
-            more: false,
-            part: *x,
-        };
-    }
-    let picked = pick_of_two(a, b, x);
-    match picked {
-        Picked::Free => Rest {
-            found: Found::At(c),
-            more: false,
-            part: *x,
-        },
-        Picked::Covered => Rest {
-            found: best,
-            more: false,
-            part: *x,
-        },
-        Picked::Held(i) => {
-            let s = row_of_two(a, b, i);
-            let ranks = rank_fields(a, b, x, &s);
-            let mut f = next_field(x, &s, &ranks);
-            if FIELDS <= f {
-                return Rest {
-                    found: best,
-                    more: false,
-                    part: *x,
-                };
-            }
-            let mut kept = upper_part(*x, &s, f);
-            let mut rest = lower_part(*x, &s, f);
-            let mut found = best;
-            f = next_field(&rest, &s, &ranks);
-            while f < FIELDS {
-                let upper = upper_part(rest, &s, f);
-                let two = by_size(a, b, upper, kept, levels);
-                let small = two.small;
-                found = least_in_part(a, b, &small, found, left - 1, fewer(levels));
-                let large = two.large;
-                kept = large;
-                let lower = lower_part(rest, &s, f);
-                rest = lower;
-                f = next_field(&rest, &s, &ranks);
-            }
-            Rest {
-                found,
-                more: true,
-                part: kept,
-            }
+    let mut ranks = [0u32; FIELDS];
+    rank_fields(a, b, x, s, &mut ranks);
+    let first = next_field(x, s, &ranks);
+    let mut kept = *x;
+    keep_above(&mut kept, s, first);
+    keep_up_to(x, s, first);
+    let mut found = best;
+    let mut f = next_field(x, s, &ranks);
+    while f < FIELDS {
+        let mut upper = *x;
+        keep_above(&mut upper, s, f);
+        keep_up_to(x, s, f);
+        f = next_field(x, s, &ranks);
+        if is_smaller(&upper, &kept) {
+            found = least_in_part(a, b, &mut upper, found, left - 1);
+        } else {
+            found = least_in_part(a, b, &mut kept, found, left - 1);
+            kept = upper;
         }
     }
+    *x = kept;
+    found
 }
 
-// The lesser of best and the least header of x that no row matches: the part that is left of each box is the next box.
-fn least_in_part(
-    a: &[u32],
-    b: &[u32],
-    x: &[u32; SIDES],
-    best: Found,
-    left: usize,
-    levels: u32,
-) -> Found
-    requires { ⌜ (proper arity (boxOf (now x) 0) ≡ true) × (Within headers (boxOf (now x) 0) × (meeting (rowsIn (now a) ++ rowsIn (now b)) (boxOf (now x) 0) ≤ left)) ⌝ }
+// The lesser of best and the least header of x that no row matches. The low corner is the one, if no row holds it. Else a row that does is cut
+// off x, and what that leaves in x is searched next.
+fn least_in_part(a: &[u32], b: &[u32], x: &mut [u32; SIDES], best: Found, left: usize) -> Found
+    requires { ⌜ (length (now x) ≡ sides) × Searchable headers (rowsIn (now a) ++ rowsIn (now b)) (boxOf (now x) 0) left ⌝ }
     ensures { λ r. ⌜ r ≡ lesser (leastIn headers (boxOf (now (x .entry)) 0) (missed (rowsIn (now (a .entry)) ++ rowsIn (now (b .entry))))) best ⌝ }
 {
-    let mut part = *x;
     let mut found = best;
     let mut n = left;
+    let mut picked = pick_before(a, b, x, found);
     loop {
-        let r = search_parts(a, b, &part, found, n, levels);
-        found = r.found;
-        if !r.more {
-            return found;
+        match picked {
+            Picked::Free => {
+                return Found::At(low_corner(x));
+            }
+            Picked::Covered => {
+                return found;
+            }
+            Picked::Held(i) => {
+                let s = row_of_two(a, b, i);
+                if row_reaches(&s, 0, x) {
+                    return found;
+                }
+                found = search_parts(a, b, x, &s, found, n);
+                n -= 1;
+                picked = pick_before(a, b, x, found);
+            }
         }
-        let next = r.part;
-        part = next;
-        n -= 1;
     }
 }
 
@@ -147,11 +106,11 @@ pub fn least_open(a: &[u32], b: &[u32], x: &[u32; SIDES], best: Found) -> Found
     while 0 < i {
         i -= 1;
         let all = header_box(i);
-        let part = part_in_row(&all, 0, x);
+        let mut part = part_in_row(&all, 0, x);
         if !is_proper(&part) {
             continue;
         }
-        found = least_in_part(a, b, &part, found, left, LEVELS);
+        found = least_in_part(a, b, &mut part, found, left);
     }
     found
 }

@@ -1,6 +1,9 @@
 // A row that holds the low corner of a box.
+use crate::corner::is_improved;
+use crate::corner::low_corner;
 use crate::holds::holds_corner;
 use crate::holds::row_reaches;
+use policy::header::Found;
 use policy::sides::FIELDS;
 use policy::sides::ROW;
 use policy::sides::SIDES;
@@ -13,10 +16,10 @@ ghost use mathlib.Core.Bool.{true, false};
 ghost use mathlib.Core.List.{_++_};
 ghost use Prim.Native.Nat.{_+_, _-_, _*_, _/_, _≤_, _<_};
 ghost use lib.ListN.{length};
-ghost use Rattle.policy.specs.Box.{lows};
-ghost use Rattle.policy.specs.Header.{arity};
+ghost use Rattle.policy.specs.Box.{lows, proper};
+ghost use Rattle.policy.specs.Header.{arity, headers};
 ghost use Rattle.policy.specs.Rows.{sides, rowSize, boxOf, rowsIn};
-ghost use Rattle.region.specs.Corner.{Picks, HoldsLast, Chooses, Better, Covers, selectorIn, numberOf, shifted};
+ghost use Rattle.region.specs.Corner.{Within, Picks, PicksBefore, HoldsLast, Chooses, Better, Covers, selectorIn, numberOf, shifted};
 
 // The number of a row that holds the low corner of a box; or no row holds it; or the rows hold all of the box.
 pub enum Picked {
@@ -41,7 +44,7 @@ fn width(low: u32, high: u32, end: u32) -> f64 {
 }
 
 // How much of b lies in the row at a place, which holds its low corner. The weights matter to the speed alone.
-pub fn weight(s: &[u32], at: usize, b: &[u32; SIDES]) -> f64
+fn weight(s: &[u32], at: usize, b: &[u32; SIDES]) -> f64
     requires { ⌜ at + sides ≤ length (now s) ⌝ }
 {
     let mut w: f64 = 1.0;
@@ -219,7 +222,7 @@ fn picked_behind(n: usize, p: Picked) -> Picked
 }
 
 // A row of one of two lists that holds the low corner of x. Most boxes are held by one row: it is looked for before any weight is reckoned.
-pub fn pick_of_two(a: &[u32], b: &[u32], x: &[u32; SIDES]) -> Picked
+fn pick_of_two(a: &[u32], b: &[u32], x: &[u32; SIDES]) -> Picked
     ensures { λ r. ⌜ Picks (rowsIn (now (a .entry)) ++ rowsIn (now (b .entry))) (boxOf (now (x .entry)) 0) r ⌝ }
 {
     let i = up_to_last(a, a.len() / ROW, x);
@@ -240,8 +243,19 @@ pub fn pick_of_two(a: &[u32], b: &[u32], x: &[u32; SIDES]) -> Picked
     pick_of_both(a, i, b, j, x)
 }
 
+// The same, if the low corner of x comes before best. If not, nothing in x does, and it counts as covered.
+pub(crate) fn pick_before(a: &[u32], b: &[u32], x: &[u32; SIDES], best: Found) -> Picked
+    requires { ⌜ (proper arity (boxOf (now x) 0) ≡ true) × Within headers (boxOf (now x) 0) ⌝ }
+    ensures { λ r. ⌜ PicksBefore (rowsIn (now (a .entry)) ++ rowsIn (now (b .entry))) (boxOf (now (x .entry)) 0) best r ⌝ }
+{
+    if !is_improved(low_corner(x), best) {
+        return Picked::Covered;
+    }
+    pick_of_two(a, b, x)
+}
+
 // The sides of row number i of two lists.
-pub fn row_of_two(a: &[u32], b: &[u32], i: usize) -> [u32; SIDES]
+pub(crate) fn row_of_two(a: &[u32], b: &[u32], i: usize) -> [u32; SIDES]
     requires { ⌜ i < length (rowsIn (now a) ++ rowsIn (now b)) ⌝ }
     ensures { λ r. ⌜ boxOf r 0 ≡ selectorIn (rowsIn (now (a .entry)) ++ rowsIn (now (b .entry))) i ⌝ }
 {

@@ -22,7 +22,7 @@ fn overlaps(s: &[u32], at: usize, x: &[u32; SIDES], f: usize) -> bool
 }
 
 // Whether they do in every field.
-pub fn is_near(s: &[u32], at: usize, x: &[u32; SIDES]) -> bool
+fn is_near(s: &[u32], at: usize, x: &[u32; SIDES]) -> bool
     requires { ⌜ at + sides ≤ length (now s) ⌝ }
 {
     let mut f: usize = 0;
@@ -49,51 +49,35 @@ fn crosses(s: &[u32], at: usize, cut: &[u32; SIDES], f: usize) -> u32
 }
 
 // The sum of two counts, modulo 2^32.
-pub fn sum(a: u32, b: u32) -> u32 {
+fn sum(a: u32, b: u32) -> u32 {
     ((a as u64 + b as u64) % 4294967296) as u32
 }
 
-// The counts with the cuts that the row at a place crosses, if it meets x.
-pub fn with_row(
-    s: &[u32],
-    at: usize,
-    x: &[u32; SIDES],
-    cut: &[u32; SIDES],
-    n: [u32; FIELDS],
-) -> [u32; FIELDS]
+// Counts the cuts that the row at a place crosses, if it meets x.
+fn count_row(s: &[u32], at: usize, x: &[u32; SIDES], cut: &[u32; SIDES], ranks: &mut [u32; FIELDS])
     requires { ⌜ at + sides ≤ length (now s) ⌝ }
 {
     if !is_near(s, at, x) {
-        return n;
+        return;
     }
-    let mut ranks = n;
     let mut f: usize = 0;
     while f < FIELDS {
         ranks[f] = sum(ranks[f], crosses(s, at, cut, f));
         f += 1;
     }
-    ranks
 }
 
-// The counts with those of every row of s.
-pub fn with_rows(
-    s: &[u32],
-    x: &[u32; SIDES],
-    cut: &[u32; SIDES],
-    n: [u32; FIELDS],
-) -> [u32; FIELDS] {
-    let mut ranks = n;
+// Counts those of every row of s.
+fn count_rows(s: &[u32], x: &[u32; SIDES], cut: &[u32; SIDES], ranks: &mut [u32; FIELDS]) {
     let mut i = s.len() / ROW;
     while 0 < i {
         i -= 1;
-        let more = with_row(s, ROW * i, x, cut, ranks);
-        ranks = more;
+        count_row(s, ROW * i, x, cut, ranks);
     }
-    ranks
 }
 
 // Whether cut ends before x in two fields or more.
-pub fn cuts_two(x: &[u32; SIDES], cut: &[u32; SIDES]) -> bool {
+fn cuts_two(x: &[u32; SIDES], cut: &[u32; SIDES]) -> bool {
     let mut one = false;
     let mut f: usize = 0;
     while f < FIELDS {
@@ -108,11 +92,16 @@ pub fn cuts_two(x: &[u32; SIDES], cut: &[u32; SIDES]) -> bool {
     false
 }
 
-// For each field, how many rows of a and b that meet x go past the end of the row to be cut off. A single cut needs no count.
-pub fn rank_fields(a: &[u32], b: &[u32], x: &[u32; SIDES], cut: &[u32; SIDES]) -> [u32; FIELDS] {
-    let none = [0u32; FIELDS];
+// Counts for each field the rows of a and b that meet x and go past the end of the row to be cut off. A single cut needs no count.
+pub(crate) fn rank_fields(
+    a: &[u32],
+    b: &[u32],
+    x: &[u32; SIDES],
+    cut: &[u32; SIDES],
+    ranks: &mut [u32; FIELDS],
+) {
     if cuts_two(x, cut) {
-        return with_rows(b, x, cut, with_rows(a, x, cut, none));
+        count_rows(a, x, cut, ranks);
+        count_rows(b, x, cut, ranks);
     }
-    none
 }

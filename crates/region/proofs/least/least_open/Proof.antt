@@ -48,7 +48,7 @@ loop-again : tie.Need-loop-again Inv-loop μ-loop
 loop-again c = (omega arith, search set-crossed)
 
 least-in-part-requires : tie.Need-least-in-part-requires Inv-loop μ-loop
-least-in-part-requires c κs = (sym (c .before .before .is-proper .ensures) ∙ not-false (c .before .if1 .left), (search part-headers, search rows-few))
+least-in-part-requires c κs = (search needs, record { is-proper = sym (c .before .before .is-proper .ensures) ∙ not-false (c .before .if1 .left); all-headers = search part-headers; few = search rows-few })
 
 loop-less-2 : tie.Need-loop-less-2 Inv-loop μ-loop
 loop-less-2 c = omega arith

@@ -1,6 +1,5 @@
 -- Only the fields have to be there.
 use borrow.Author.Needs.{needs}
-use native.Mathlib.Omega.{arith}
 use Prim.Native.Nat.{_≤_, _-_}
 use Rattle.policy.specs.Header.{arity}
 use Rattle.region.proofs.size.volume.Statement.{statement}

@@ -4,8 +4,8 @@ use native.Mathlib.Omega.{arith}
 use Prim.Native.Nat.{_≤_, _/_}
 use lib.ListN.{length}
 use Rattle.policy.specs.Rows.{rowSize}
-use Rattle.region.proofs.rank.with_rows.Statement.{statement}
-use Rattle.region.proofs.rank.with_rows.Tie as tie
+use Rattle.region.proofs.rank.count_rows.Statement.{statement}
+use Rattle.region.proofs.rank.count_rows.Tie as tie
 
 abbrev Inv-loop : tie.InvT-loop
 Inv-loop s x cut ranks₀ i₀ ranks i = i ≤ length s / rowSize
@@ -19,11 +19,11 @@ loop-holds c = omega arith
 sub-i : tie.Need-sub-i Inv-loop μ-loop
 sub-i c = omega arith
 
-mul-with-row : tie.Need-mul-with-row Inv-loop μ-loop
-mul-with-row c = omega arith
+mul-count-row : tie.Need-mul-count-row Inv-loop μ-loop
+mul-count-row c = omega arith
 
-with-row-requires : tie.Need-with-row-requires Inv-loop μ-loop
-with-row-requires c κs = omega arith
+count-row-requires : tie.Need-count-row-requires Inv-loop μ-loop
+count-row-requires c κs = omega arith
 
 loop-less : tie.Need-loop-less Inv-loop μ-loop
 loop-less c = omega arith
@@ -34,16 +34,16 @@ loop-again c = omega arith
 returns : tie.Need-returns Inv-loop μ-loop
 returns c = search needs
 
-pub with-rows-spec : {M : Type 1} → statement M
-with-rows-spec =
+pub count-rows-spec : {M : Type 1} → statement M
+count-rows-spec =
     tie.close
     (tie.spec
     Inv-loop
     μ-loop
     loop-holds
     sub-i
-    mul-with-row
-    with-row-requires
+    mul-count-row
+    count-row-requires
     loop-less
     loop-again
     returns)

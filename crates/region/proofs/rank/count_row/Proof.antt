@@ -1,10 +1,10 @@
 -- Only the fields have to be there.
-use borrow.Author.Needs.{needs}
-use native.Mathlib.Omega.{arith}
 use Prim.Native.Nat.{_≤_, _-_}
+use native.Mathlib.Omega.{arith}
 use Rattle.policy.specs.Header.{arity}
-use Rattle.region.proofs.rank.with_row.Statement.{statement}
-use Rattle.region.proofs.rank.with_row.Tie as tie
+use borrow.Author.Needs.{needs}
+use Rattle.region.proofs.rank.count_row.Statement.{statement}
+use Rattle.region.proofs.rank.count_row.Tie as tie
 
 abbrev Inv-loop : tie.InvT-loop
 Inv-loop s at x cut ranks₀ f₀ ranks f = f ≤ arity
@@ -24,8 +24,8 @@ loop-holds c = omega arith
 mul-sum : tie.Need-mul-sum Inv-loop μ-loop
 mul-sum c = search needs
 
-array-read-sum : tie.Need-array-read-sum Inv-loop μ-loop
-array-read-sum c = search needs
+element-copy-out-sum : tie.Need-element-copy-out-sum Inv-loop μ-loop
+element-copy-out-sum c = search needs
 
 crosses-requires : tie.Need-crosses-requires Inv-loop μ-loop
 crosses-requires c κs = search needs
@@ -36,8 +36,8 @@ sum-requires c κs = search needs
 mul-ranks : tie.Need-mul-ranks Inv-loop μ-loop
 mul-ranks c = search needs
 
-array-write-ranks : tie.Need-array-write-ranks Inv-loop μ-loop
-array-write-ranks c = search needs
+element-write-ranks : tie.Need-element-write-ranks Inv-loop μ-loop
+element-write-ranks c = search needs
 
 add-f : tie.Need-add-f Inv-loop μ-loop
 add-f c = omega arith
@@ -51,8 +51,8 @@ loop-again c = omega arith
 returns-2 : tie.Need-returns-2 Inv-loop μ-loop
 returns-2 c = search needs
 
-pub with-row-spec : {M : Type 1} → statement M
-with-row-spec =
+pub count-row-spec : {M : Type 1} → statement M
+count-row-spec =
     tie.close
     (tie.spec
     Inv-loop
@@ -61,11 +61,11 @@ with-row-spec =
     returns
     loop-holds
     mul-sum
-    array-read-sum
+    element-copy-out-sum
     crosses-requires
     sum-requires
     mul-ranks
-    array-write-ranks
+    element-write-ranks
     add-f
     loop-less
     loop-again
