@@ -9,6 +9,8 @@ use crate::holds::row_reaches;
 use crate::pick::Picked;
 use crate::pick::pick_before;
 use crate::pick::row_of_two;
+use crate::rank::LEVELS;
+use crate::rank::fewer;
 use crate::rank::rank_fields;
 use crate::size::is_smaller;
 use policy::header::Found;
@@ -38,16 +40,18 @@ fn search_parts(
     s: &[u32; SIDES],
     best: Found,
     left: usize,
+    levels: u32,
 ) -> Found
     requires { ⌜ (length (now x) ≡ sides) × ((reaches arity (boxOf (now s) 0) (boxOf (now x) 0) ≡ false) × Ready headers (rowsIn (now a) ++ rowsIn (now b)) (boxOf (now s) 0) (boxOf (now x) 0) left) ⌝ }
     ensures { λ r. ⌜ (length (now (x .exit)) ≡ sides) × Parted headers (rowsIn (now (a .entry)) ++ rowsIn (now (b .entry))) (boxOf (now (x .entry)) 0) best left (boxOf (now (x .exit)) 0) r ⌝ }
 {
     let mut ranks = [0u32; FIELDS];
-    rank_fields(a, b, x, s, &mut ranks);
+    rank_fields(a, b, x, s, levels, &mut ranks);
     let first = next_field(x, s, &ranks);
     let mut kept = *x;
     keep_above(&mut kept, s, first);
     keep_up_to(x, s, first);
+    let deeper = fewer(levels);
     let mut found = best;
     let mut f = next_field(x, s, &ranks);
     while f < FIELDS {
@@ -56,9 +60,9 @@ fn search_parts(
         keep_up_to(x, s, f);
         f = next_field(x, s, &ranks);
         if is_smaller(&upper, &kept) {
-            found = least_in_part(a, b, &mut upper, found, left - 1);
+            found = least_in_part(a, b, &mut upper, found, left - 1, deeper);
         } else {
-            found = least_in_part(a, b, &mut kept, found, left - 1);
+            found = least_in_part(a, b, &mut kept, found, left - 1, deeper);
             kept = upper;
         }
     }
@@ -68,7 +72,14 @@ fn search_parts(
 
 // The lesser of best and the least header of x that no row matches. The low corner is the one, if no row holds it. Else a row that does is cut
 // off x, and what that leaves in x is searched next.
-fn least_in_part(a: &[u32], b: &[u32], x: &mut [u32; SIDES], best: Found, left: usize) -> Found
+fn least_in_part(
+    a: &[u32],
+    b: &[u32],
+    x: &mut [u32; SIDES],
+    best: Found,
+    left: usize,
+    levels: u32,
+) -> Found
     requires { ⌜ (length (now x) ≡ sides) × Searchable headers (rowsIn (now a) ++ rowsIn (now b)) (boxOf (now x) 0) left ⌝ }
     ensures { λ r. ⌜ r ≡ lesser (leastIn headers (boxOf (now (x .entry)) 0) (missed (rowsIn (now (a .entry)) ++ rowsIn (now (b .entry))))) best ⌝ }
 {
@@ -88,7 +99,7 @@ fn least_in_part(a: &[u32], b: &[u32], x: &mut [u32; SIDES], best: Found, left: 
                 if row_reaches(&s, 0, x) {
                     return found;
                 }
-                found = search_parts(a, b, x, &s, found, n);
+                found = search_parts(a, b, x, &s, found, n, levels);
                 n -= 1;
                 picked = pick_before(a, b, x, found);
             }
@@ -110,7 +121,7 @@ pub fn least_open(a: &[u32], b: &[u32], x: &[u32; SIDES], best: Found) -> Found
         if !is_proper(&part) {
             continue;
         }
-        found = least_in_part(a, b, &mut part, found, left);
+        found = least_in_part(a, b, &mut part, found, left, LEVELS);
     }
     found
 }

@@ -1,4 +1,5 @@
-// Which field to cut first: the one in which the fewest rows cross the cut. It matters to the speed alone.
+// Which field to cut first: the one in which the fewest rows cross the cut; far down in the search, the one of which the row that is cut off
+// has the least share. It matters to the speed and to the depth alone.
 use policy::sides::FIELDS;
 use policy::sides::ROW;
 use policy::sides::SIDES;
@@ -6,34 +7,11 @@ use policy::sides::high;
 use policy::sides::high_at;
 use policy::sides::low;
 use policy::sides::low_at;
+use policy::sides::meets_row;
 ghost use Prim.Native.Nat.{_+_, _≤_, _<_};
 ghost use lib.ListN.{length};
 ghost use Rattle.policy.specs.Header.{arity};
 ghost use Rattle.policy.specs.Rows.{sides};
-
-// Whether the row at a place and x have a number of field f in common.
-fn overlaps(s: &[u32], at: usize, x: &[u32; SIDES], f: usize) -> bool
-    requires { ⌜ (at + sides ≤ length (now s)) × (f < arity) ⌝ }
-{
-    if high_at(s, at, f) < low(x, f) {
-        return false;
-    }
-    low_at(s, at, f) <= high(x, f)
-}
-
-// Whether they do in every field.
-fn is_near(s: &[u32], at: usize, x: &[u32; SIDES]) -> bool
-    requires { ⌜ at + sides ≤ length (now s) ⌝ }
-{
-    let mut f: usize = 0;
-    while f < FIELDS {
-        if !overlaps(s, at, x, f) {
-            return false;
-        }
-        f += 1;
-    }
-    true
-}
 
 // 1 if cut ends inside the row at a place in field f, and 0 if not.
 fn crosses(s: &[u32], at: usize, cut: &[u32; SIDES], f: usize) -> u32
@@ -57,7 +35,7 @@ fn sum(a: u32, b: u32) -> u32 {
 fn count_row(s: &[u32], at: usize, x: &[u32; SIDES], cut: &[u32; SIDES], ranks: &mut [u32; FIELDS])
     requires { ⌜ at + sides ≤ length (now s) ⌝ }
 {
-    if !is_near(s, at, x) {
+    if !meets_row(s, at, x) {
         return;
     }
     let mut f: usize = 0;
@@ -92,15 +70,49 @@ fn cuts_two(x: &[u32; SIDES], cut: &[u32; SIDES]) -> bool {
     false
 }
 
-// Counts for each field the rows of a and b that meet x and go past the end of the row to be cut off. A single cut needs no count.
+// How much of the numbers from low to high come up to an end, in parts of 2^32.
+fn share(low: u32, high: u32, end: u32) -> u32 {
+    let part = std::num::wrapping_sub_u32(end, low) as u64 + 1;
+    let whole = std::num::wrapping_sub_u32(high, low) as u64 + 1;
+    (part * 0xffff_ffff / whole % 0x1_0000_0000) as u32
+}
+
+// Takes for each field the share of x up to the end of the row to be cut off. Cut in their order, the fields leave no part but the largest with more
+// than a quarter of the headers of x: one that is cut after a share of p has at most p (1 - p) of them.
+fn rank_shares(x: &[u32; SIDES], cut: &[u32; SIDES], ranks: &mut [u32; FIELDS]) {
+    let mut f: usize = 0;
+    while f < FIELDS {
+        ranks[f] = share(low(x, f), high(x, f), high(cut, f));
+        f += 1;
+    }
+}
+
+// The levels of the search in which rows are counted. No list that is not made for it goes as far down.
+pub const LEVELS: u32 = 16;
+
+// One level less, if there is one.
+pub(crate) fn fewer(levels: u32) -> u32 {
+    if 0 < levels {
+        return levels - 1;
+    }
+    0
+}
+
+// Ranks the fields of x for the row to be cut off: by the rows of a and b that meet x and go past its end, while there are levels, and then by its
+// shares. A single cut needs no rank.
 pub(crate) fn rank_fields(
     a: &[u32],
     b: &[u32],
     x: &[u32; SIDES],
     cut: &[u32; SIDES],
+    levels: u32,
     ranks: &mut [u32; FIELDS],
 ) {
     if cuts_two(x, cut) {
+        if levels == 0 {
+            rank_shares(x, cut, ranks);
+            return;
+        }
         count_rows(a, x, cut, ranks);
         count_rows(b, x, cut, ranks);
     }

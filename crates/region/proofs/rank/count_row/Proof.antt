@@ -12,8 +12,8 @@ Inv-loop s at x cut ranks₀ f₀ ranks f = f ≤ arity
 abbrev μ-loop : tie.MeasureT-loop
 μ-loop s at x cut ranks₀ f₀ ranks f = arity - f
 
-is-near-requires : tie.Need-is-near-requires Inv-loop μ-loop
-is-near-requires c κs = search needs
+meets-row-requires : tie.Need-meets-row-requires Inv-loop μ-loop
+meets-row-requires c κs = search needs
 
 returns : tie.Need-returns Inv-loop μ-loop
 returns c = search needs
@@ -57,7 +57,7 @@ count-row-spec =
     (tie.spec
     Inv-loop
     μ-loop
-    is-near-requires
+    meets-row-requires
     returns
     loop-holds
     mul-sum
