@@ -12,7 +12,8 @@ use crate::pick::row_of_two;
 use crate::rank::LEVELS;
 use crate::rank::fewer;
 use crate::rank::rank_fields;
-use crate::size::is_smaller;
+use crate::size::goes_first;
+use crate::size::most_headers;
 use policy::header::Found;
 use policy::sides::FIELDS;
 use policy::sides::ROW;
@@ -31,8 +32,8 @@ ghost use Rattle.policy.specs.Rows.{sides, boxOf, rowsIn};
 ghost use Rattle.region.specs.Corner.{reaches};
 ghost use Rattle.region.specs.Parts.{Searchable, Ready, Parted};
 
-// Cuts s, a row that holds the low corner of x and not all of it, off x, field by field, and searches each part above it but the largest, which
-// it leaves in x. The row meets x, and none of these parts. A part that is searched by a call has at most half of the headers of x.
+// Cuts s, a row that holds the low corner of x and not all of it, off x, field by field, and searches each part above it but one, which it leaves
+// in x. The row meets x, and none of these parts. The parts that are searched by a call have at most half of the headers of x.
 fn search_parts(
     a: &[u32],
     b: &[u32],
@@ -47,23 +48,26 @@ fn search_parts(
 {
     let mut ranks = [0u32; FIELDS];
     rank_fields(a, b, x, s, levels, &mut ranks);
-    let first = next_field(x, s, &ranks);
+    let mut g = next_field(x, s, &ranks);
+    let most = most_headers(x, levels);
     let mut kept = *x;
-    keep_above(&mut kept, s, first);
-    keep_up_to(x, s, first);
+    keep_above(&mut kept, s, g);
+    keep_up_to(x, s, g);
     let deeper = fewer(levels);
     let mut found = best;
-    let mut f = next_field(x, s, &ranks);
-    while f < FIELDS {
+    let mut next = next_field(x, s, &ranks);
+    while next < FIELDS {
+        let f = next;
         let mut upper = *x;
         keep_above(&mut upper, s, f);
         keep_up_to(x, s, f);
-        f = next_field(x, s, &ranks);
-        if is_smaller(&upper, &kept) {
+        next = next_field(x, s, &ranks);
+        if goes_first(&upper, f, &kept, g, most) {
             found = least_in_part(a, b, &mut upper, found, left - 1, deeper);
         } else {
             found = least_in_part(a, b, &mut kept, found, left - 1, deeper);
             kept = upper;
+            g = f;
         }
     }
     *x = kept;

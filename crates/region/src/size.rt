@@ -1,4 +1,4 @@
-// Which of two boxes has fewer headers. It matters to the depth of the search alone.
+// Which of two parts of a box is searched first. It matters to the speed and to the depth alone.
 use policy::sides::FIELDS;
 use policy::sides::SIDES;
 use policy::sides::high;
@@ -15,6 +15,26 @@ fn volume(b: &[u32; SIDES]) -> f64 {
     v
 }
 
-pub(crate) fn is_smaller(p: &[u32; SIDES], q: &[u32; SIDES]) -> bool {
-    volume(p) <= volume(q)
+// How many headers of x a part may have that is searched by a call: half of them, and a quarter where no levels are left. Of two parts that were
+// cut as rank_fields says, one has no more.
+pub(crate) fn most_headers(x: &[u32; SIDES], levels: u32) -> f64 {
+    if levels == 0 {
+        return volume(x) / 4.0;
+    }
+    volume(x) / 2.0
+}
+
+// Whether the part p, which was cut off in field number f, is searched before the part q, cut off in field number g. The one in the later field has
+// the lesser headers, and what is found there can spare the search of the other; but it has to be small enough.
+pub(crate) fn goes_first(
+    p: &[u32; SIDES],
+    f: usize,
+    q: &[u32; SIDES],
+    g: usize,
+    most: f64,
+) -> bool {
+    if g < f {
+        return volume(p) <= most;
+    }
+    most < volume(q)
 }

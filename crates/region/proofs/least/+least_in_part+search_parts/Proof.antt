@@ -29,7 +29,8 @@ use Rattle.region.proofs.pick.pick_before.Reads as pick-before-reads
 use Rattle.region.proofs.pick.row_of_two.Reads as row-of-two-reads
 use Rattle.region.proofs.rank.fewer.Reads as fewer-reads
 use Rattle.region.proofs.rank.rank_fields.Reads as rank-fields-reads
-use Rattle.region.proofs.size.is_smaller.Reads as is-smaller-reads
+use Rattle.region.proofs.size.goes_first.Reads as goes-first-reads
+use Rattle.region.proofs.size.most_headers.Reads as most-headers-reads
 use Rattle.region.proofs.least.+least_in_part+search_parts.{statement}
 use Rattle.region.proofs.least.+least_in_part+search_parts.Tie.{close}
 
@@ -68,7 +69,7 @@ abbrev ls : ℕ → least-in-part-lts.Claims
 ls t = (pick-before-reads.Asked, pick-before-reads.Learnt, low-corner-reads.Asked, low-corner-reads.Learnt, row-of-two-reads.Asked, row-of-two-reads.Learnt, row-reaches-reads.Asked, row-reaches-reads.Learnt, search-parts-below t, search-parts.Post)
 
 abbrev ks : ℕ → search-parts-lts.Claims
-ks t = (rank-fields-reads.Asked, rank-fields-reads.Learnt, next-field-reads.Asked, next-field-reads.Learnt, keep-above-reads.Asked, keep-above-reads.Learnt, keep-up-to-reads.Asked, keep-up-to-reads.Learnt, fewer-reads.Asked, fewer-reads.Learnt, is-smaller-reads.Asked, is-smaller-reads.Learnt, least-in-part-below t, least-in-part.Post)
+ks t = (rank-fields-reads.Asked, rank-fields-reads.Learnt, next-field-reads.Asked, next-field-reads.Learnt, most-headers-reads.Asked, most-headers-reads.Learnt, keep-above-reads.Asked, keep-above-reads.Learnt, keep-up-to-reads.Asked, keep-up-to-reads.Learnt, fewer-reads.Asked, fewer-reads.Learnt, goes-first-reads.Asked, goes-first-reads.Learnt, least-in-part-below t, least-in-part.Post)
 
 abbrev least-in-part-Inv-loop : least-in-part-lts.InvT-loop
 least-in-part-Inv-loop a b x₀ left levels found₀ n₀ picked₀ x found n picked =
@@ -130,18 +131,21 @@ least-in-part-loop-again : (t : ℕ) → least-in-part-lts.Need-loop-again (ls t
 least-in-part-loop-again t c = (search (under, needs), (search needs, search open-again))
 
 abbrev search-parts-Inv-loop : search-parts-lts.InvT-loop
-search-parts-Inv-loop a b x₀ s left levels ranks first kept₀ deeper found₀ f₀ x kept found f =
+search-parts-Inv-loop a b x₀ s left levels ranks g₀ most kept₀ deeper found₀ next₀ x g kept found next =
     ((length x ≡ sides) × (length kept ≡ sides))
-    × Cutting headers (rowsIn a ++ rowsIn b) (boxOf s 0) left (boxOf x₀ 0) (boxOf kept₀ 0) found₀ (boxOf x 0) (boxOf kept 0) found f
+    × Cutting headers (rowsIn a ++ rowsIn b) (boxOf s 0) left (boxOf x₀ 0) (boxOf kept₀ 0) found₀ (boxOf x 0) (boxOf kept 0) found next
 
 abbrev search-parts-μ-loop : search-parts-lts.MeasureT-loop
-search-parts-μ-loop a b x₀ s left levels ranks first kept₀ deeper found₀ f₀ x kept found f = shorts arity (boxOf x 0) (boxOf s 0)
+search-parts-μ-loop a b x₀ s left levels ranks g₀ most kept₀ deeper found₀ next₀ x g kept found next = shorts arity (boxOf x 0) (boxOf s 0)
 
 search-parts-rank-fields-requires : (t : ℕ) → search-parts-lts.Need-rank-fields-requires (ks t) (search-parts-at t) search-parts.Post search-parts-Inv-loop search-parts-μ-loop
 search-parts-rank-fields-requires t c κs = search needs
 
 search-parts-next-field-requires : (t : ℕ) → search-parts-lts.Need-next-field-requires (ks t) (search-parts-at t) search-parts.Post search-parts-Inv-loop search-parts-μ-loop
 search-parts-next-field-requires t c κs = search needs
+
+search-parts-most-headers-requires : (t : ℕ) → search-parts-lts.Need-most-headers-requires (ks t) (search-parts-at t) search-parts.Post search-parts-Inv-loop search-parts-μ-loop
+search-parts-most-headers-requires t c κs = search needs
 
 search-parts-keep-above-requires : (t : ℕ) → search-parts-lts.Need-keep-above-requires (ks t) (search-parts-at t) search-parts.Post search-parts-Inv-loop search-parts-μ-loop
 search-parts-keep-above-requires t c κs = (search needs, (search next-field, (search (next-short, next-field), search needs)))
@@ -157,8 +161,8 @@ search-parts-next-field-requires-2 t c κs = search needs
 
 search-parts-loop-holds : (t : ℕ) → search-parts-lts.Need-loop-holds (ks t) (search-parts-at t) search-parts.Post search-parts-Inv-loop search-parts-μ-loop
 search-parts-loop-holds t c =
-    let p = c .before .before .before .before .before .before .before .before .before .before .before .before .before .before .before .before .before .pre .1 .1 in
-    let n = c .before .before .before .before .before .before .before .before .before .next-field .ensures in
+    let p = c .before .before .before .before .before .before .before .before .before .before .before .before .before .before .before .before .before .before .before .pre .1 .1 in
+    let n = c .before .before .before .before .before .before .before .before .before .before .before .next-field .ensures in
     ((search needs, search needs), cutting-first _ _ _ _ _ _ _ (p .1) n (next-field _ _ _ _ _ _ (p .1) n (p .0)) _ _ (c .before .before .before .before .before .before .keep-above .ensures .1) (c .before .before .before .before .keep-up-to .ensures .1) (c .next-field2 .ensures) _)
 
 search-parts-keep-above-requires-2 : (t : ℕ) → search-parts-lts.Need-keep-above-requires-2 (ks t) (search-parts-at t) search-parts.Post search-parts-Inv-loop search-parts-μ-loop
@@ -170,14 +174,14 @@ search-parts-keep-up-to-requires-2 t c κs = (search needs, (search needs, searc
 search-parts-next-field-requires-3 : (t : ℕ) → search-parts-lts.Need-next-field-requires-3 (ks t) (search-parts-at t) search-parts.Post search-parts-Inv-loop search-parts-μ-loop
 search-parts-next-field-requires-3 t c κs = search needs
 
-search-parts-is-smaller-requires : (t : ℕ) → search-parts-lts.Need-is-smaller-requires (ks t) (search-parts-at t) search-parts.Post search-parts-Inv-loop search-parts-μ-loop
-search-parts-is-smaller-requires t c κs = search needs
+search-parts-goes-first-requires : (t : ℕ) → search-parts-lts.Need-goes-first-requires (ks t) (search-parts-at t) search-parts.Post search-parts-Inv-loop search-parts-μ-loop
+search-parts-goes-first-requires t c κs = search needs
 
 search-parts-sub-least-in-part : (t : ℕ) → search-parts-lts.Need-sub-least-in-part (ks t) (search-parts-at t) search-parts.Post search-parts-Inv-loop search-parts-μ-loop
 search-parts-sub-least-in-part t c = search needs
 
 search-parts-least-in-part-requires : (t : ℕ) → search-parts-lts.Need-least-in-part-requires (ks t) (search-parts-at t) search-parts.Post search-parts-Inv-loop search-parts-μ-loop
-search-parts-least-in-part-requires t c κs = (falls-down _ _ (c .before .before .before .before .before .before .before .before .before .before .before .before .before .before .before .before .before .before .before .before .before .before .before .before .before .before .before .before .before .before .before .before .pre .0) (c .before .before .before .before .before .before .before .before .before .before .before .before .before .before .loop .inv .1 .piece .0), (search needs, cutting-piece _ _ _ _ _ _ _ _ _ _ _ (c .before .before .before .before .before .before .before .before .before .before .before .before .before .before .loop .inv .1) (c .before .before .before .before .before .before .before .before .before .before .before .before .before .loop-test .taken) _ (c .before .before .before .before .before .before .before .before .before .before .keep-above2 .ensures .1)))
+search-parts-least-in-part-requires t c κs = (falls-down _ _ (c .before .before .before .before .before .before .before .before .before .before .before .before .before .before .before .before .before .before .before .before .before .before .before .before .before .before .before .before .before .before .before .before .before .before .pre .0) (c .before .before .before .before .before .before .before .before .before .before .before .before .before .before .loop .inv .1 .piece .0), (search needs, cutting-piece _ _ _ _ _ _ _ _ _ _ _ (c .before .before .before .before .before .before .before .before .before .before .before .before .before .before .loop .inv .1) (c .before .before .before .before .before .before .before .before .before .before .before .before .before .loop-test .taken) _ (c .before .before .before .before .before .before .before .before .before .before .keep-above2 .ensures .1)))
 
 search-parts-loop-less : (t : ℕ) → search-parts-lts.Need-loop-less (ks t) (search-parts-at t) search-parts.Post search-parts-Inv-loop search-parts-μ-loop
 search-parts-loop-less t c = cutting-falls _ _ _ _ _ _ _ _ _ _ _ _ (c .before .before .before .before .before .before .before .before .before .before .before .before .before .before .before .loop .inv .1) (c .before .before .before .before .before .before .before .before .before .before .before .before .before .before .loop-test .taken) _ _ (c .before .before .before .before .before .before .before .before .before .before .before .keep-above2 .ensures .1) (c .before .before .before .before .before .before .before .before .before .keep-up-to2 .ensures .1) (c .before .before .before .before .before .before .next-field3 .ensures)
@@ -189,7 +193,7 @@ search-parts-sub-least-in-part-2 : (t : ℕ) → search-parts-lts.Need-sub-least
 search-parts-sub-least-in-part-2 t c = search needs
 
 search-parts-least-in-part-requires-2 : (t : ℕ) → search-parts-lts.Need-least-in-part-requires-2 (ks t) (search-parts-at t) search-parts.Post search-parts-Inv-loop search-parts-μ-loop
-search-parts-least-in-part-requires-2 t c κs = (falls-down _ _ (c .before .before .before .before .before .before .before .before .before .before .before .before .before .before .before .before .before .before .before .before .before .before .before .before .before .before .before .before .before .before .before .before .pre .0) (c .before .before .before .before .before .before .before .before .before .before .before .before .before .before .loop .inv .1 .piece .0), (search needs, search needs))
+search-parts-least-in-part-requires-2 t c κs = (falls-down _ _ (c .before .before .before .before .before .before .before .before .before .before .before .before .before .before .before .before .before .before .before .before .before .before .before .before .before .before .before .before .before .before .before .before .before .before .pre .0) (c .before .before .before .before .before .before .before .before .before .before .before .before .before .before .loop .inv .1 .piece .0), (search needs, search needs))
 
 search-parts-loop-less-2 : (t : ℕ) → search-parts-lts.Need-loop-less-2 (ks t) (search-parts-at t) search-parts.Post search-parts-Inv-loop search-parts-μ-loop
 search-parts-loop-less-2 t c = cutting-falls _ _ _ _ _ _ _ _ _ _ _ _ (c .before .before .before .before .before .before .before .before .before .before .before .before .before .before .before .loop .inv .1) (c .before .before .before .before .before .before .before .before .before .before .before .before .before .before .loop-test .taken) _ _ (c .before .before .before .before .before .before .before .before .before .before .before .keep-above2 .ensures .1) (c .before .before .before .before .before .before .before .before .before .keep-up-to2 .ensures .1) (c .before .before .before .before .before .before .next-field3 .ensures)
@@ -199,8 +203,8 @@ search-parts-loop-again-2 t c = ((search needs, search needs), search cutting-an
 
 search-parts-returns : (t : ℕ) → search-parts-lts.Need-returns (ks t) (search-parts-at t) search-parts.Post search-parts-Inv-loop search-parts-μ-loop
 search-parts-returns t c =
-    let p = c .before .before .before .before .before .before .before .before .before .before .before .before .before .before .before .before .before .before .before .pre .1 .1 in
-    let n = c .before .before .before .before .before .before .before .before .before .before .before .next-field .ensures in
+    let p = c .before .before .before .before .before .before .before .before .before .before .before .before .before .before .before .before .before .before .before .before .before .pre .1 .1 in
+    let n = c .before .before .before .before .before .before .before .before .before .before .before .before .before .next-field .ensures in
     (search needs, parted _ _ _ _ _ _ _ (p .1) n (next-field _ _ _ _ _ _ (p .1) n (p .0)) _ _ (c .before .before .before .before .before .before .before .before .keep-above .ensures .1) (c .before .before .before .before .before .before .keep-up-to .ensures .1) (c .before .before .next-field2 .ensures) _ _ _ _ _ (c .before .loop .inv .1) (c .loop-test .left))
 
 pub +least-in-part+search-parts-spec : {M : Type 1} → statement M
@@ -234,6 +238,7 @@ pub +least-in-part+search-parts-spec : {M : Type 1} → statement M
     search-parts-μ-loop
     (search-parts-rank-fields-requires t)
     (search-parts-next-field-requires t)
+    (search-parts-most-headers-requires t)
     (search-parts-keep-above-requires t)
     (search-parts-keep-up-to-requires t)
     (search-parts-fewer-requires t)
@@ -242,7 +247,7 @@ pub +least-in-part+search-parts-spec : {M : Type 1} → statement M
     (search-parts-keep-above-requires-2 t)
     (search-parts-keep-up-to-requires-2 t)
     (search-parts-next-field-requires-3 t)
-    (search-parts-is-smaller-requires t)
+    (search-parts-goes-first-requires t)
     (search-parts-sub-least-in-part t)
     (search-parts-least-in-part-requires t)
     (search-parts-loop-less t)
