@@ -3,26 +3,29 @@
 use Prim.Native.Nat.{ℕ, suc, _<_, _≤_, _-_, _+_, _*_, _/_}
 use native.Mathlib.Omega.{arith}
 use mathlib.Core.Path.{_≡_, sym, _∙_, ap, ap₂, fun-ext}
-use mathlib.Core.Bool.{true}
+use mathlib.Core.Bool.{Bool, true, _&&_, and-false}
 use mathlib.Core.List.{List, [], _∷_, _++_}
+use lib.Dec.{leb}
 use lib.ListN.{length, take}
+use borrow.Author.Tests.{leb-true}
 use Rattle.policy.specs.declared.header.Found.{Found}
 use Rattle.policy.specs.declared.header.Found.the-variants.{Nothing}
 use Rattle.policy.specs.declared.entry.Entry.{Entry}
 use Rattle.policy.specs.declared.refusal.Refusal.{Refusal}
 use Rattle.policy.specs.Box.{meet}
-use Rattle.policy.specs.Header.{arity, Box, Headers, headers}
+use Rattle.policy.specs.Header.{arity, Box, lies, Headers, headers}
 use Rattle.policy.specs.Found.{lesser}
 use Rattle.policy.specs.Least.{leastIn}
 use Rattle.policy.specs.Policy.{allowed, missed}
 use Rattle.policy.specs.Refusals.{refusal}
-use Rattle.policy.proofs.Least.{lesser-last}
+use Rattle.policy.proofs.Least.{least-none, none-tells, lesser-last}
 use Rattle.policy.proofs.Slices.{length-rows, rows-split}
 use Rattle.wire.specs.declared.check.Checked.{Checked}
 use Rattle.wire.specs.declared.check.Checked.the-variants.{Good, Refused}
 use Rattle.wire.specs.Format.{headSize, listLimit, entriesFrom, listIn}
 use Rattle.wire.specs.Checks.{checksOf, checked}
 use Rattle.wire.proofs.Checked.{good-tells, refused-tells}
+use Rattle.wire.proofs.Entries.{length-entries}
 use Rattle.region.specs.declared.treated.Sets.the-variants.{Other}
 use Rattle.region.specs.declared.search.Want.{Want}
 use Rattle.region.specs.declared.search.Want.the-variants.{Uncaught, CaughtBy, Differs}
@@ -30,6 +33,7 @@ use Rattle.region.specs.declared.search.Searched.{Searched}
 use Rattle.policy.specs.Rows.{rowSize, boxOf, rowAt, rowsFrom, rowsIn}
 use Rattle.region.specs.Treated.{judged}
 use Rattle.region.specs.Search.{treated, foundAnswer, searchOf, searched}
+use Rattle.region.specs.ListChecks.{gapOf}
 use Rattle.region.proofs.Uses.{caught-by, caught-by-none, differs-judged}
 use Rattle.region.proofs.Judging.{firsts-in}
 
@@ -91,6 +95,26 @@ module _ (hs : Headers) (s : List ℕ) (x : Box) where
 pub decoded-searched : (rows : List ℕ) (p : List Entry) (b : Box) (want : Want) (found : Found) → rowsIn rows ≡ p
     → found ≡ leastIn headers b (treated want (rowsIn rows)) → found ≡ leastIn headers b (treated want p)
 decoded-searched rows p b want found e g = g ∙ ap (λ (p : List Entry). leastIn headers b (treated want p)) e
+
+-- it was seen in its records that there is none
+module _ (s : List ℕ) (n : ℕ) (want : Want) (t : Bool) where
+  pub settled-closed : want ≡ Uncaught → (t ≡ true → gapOf (entriesFrom s headSize n) ≡ Nothing)
+      → (b : Box) → t ≡ true → leastIn headers b (treated want (entriesFrom s headSize n)) ≡ Nothing
+  unfolding leastIn
+  settled-closed e f b q =
+      ap (λ (w : Want). leastIn headers b (treated w p)) e
+      ∙ least-none headers (λ h. lies b h && missed p h) λ h a. ap (lies b h &&_) (none-tells headers (missed p) (f q) h a) ∙ and-false (lies b h)
+    where
+      p : List Entry
+      p = entriesFrom s headSize n
+
+  pub settled-past : (k : ℕ) → want ≡ CaughtBy k → t ≡ leb n k → (b : Box) → t ≡ true → leastIn headers b (treated want (entriesFrom s headSize n)) ≡ Nothing
+  settled-past k e l b q =
+      ap (λ (w : Want). leastIn headers b (treated w (entriesFrom s headSize n))) e
+      ∙ caught-by-none headers b k (entriesFrom s headSize n) (less (length (entriesFrom s headSize n)) (length-entries s headSize n) (leb-true n k (sym l ∙ q)))
+    where
+      less : (m : ℕ) → m ≡ n → n ≤ k → m ≤ k
+      less m e l = omega arith
 
 module _ (s : List ℕ) (b : Box) (want : Want) (r : Checked) (e : checked r ≡ checksOf s listLimit) where
   pub file-refused : (x : Refusal) → r ≡ Refused x → refusal x ≡ searchOf s b want

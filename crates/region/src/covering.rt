@@ -22,7 +22,7 @@ ghost use Rattle.wire.specs.Checks.{checked};
 ghost use Rattle.region.specs.ListChecks.{gapOf, gapChecked, listChecksOf, InRows, Decoded};
 
 // Whether the last of the n records of a good file is ALL: then its list has no gap, and none is searched for.
-fn ends_with_all(file: &[u8], n: usize) -> bool
+pub(crate) fn ends_with_all(file: &[u8], n: usize) -> bool
     requires { ⌜ (length (now file) ≡ fileSize n) × (1 ≤ n) ⌝ }
     ensures { λ t. ⌜ (t ≡ true → gapOf (entriesFrom (now (file .entry)) headSize n) ≡ Nothing) ⌝ }
 {

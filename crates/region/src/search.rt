@@ -1,4 +1,5 @@
 // The search of a region: the least header of a box that a file's list treats in a wanted way.
+use crate::covering::ends_with_all;
 use crate::least::least_missed;
 use crate::treated::Sets;
 use crate::treated::least_treated;
@@ -15,9 +16,11 @@ use wire::format::HEAD_SIZE;
 use wire::format::LIST_LIMIT;
 use wire::rows::decode_records;
 ghost use mathlib.Core.Path.{_≡_};
+ghost use mathlib.Core.Bool.{true};
 ghost use Prim.Native.Nat.{_*_, _≤_};
 ghost use lib.ListN.{length};
-ghost use Rattle.policy.specs.Header.{headers};
+ghost use Rattle.policy.specs.declared.header.Found.the-variants.{Nothing};
+ghost use Rattle.policy.specs.Header.{Box, headers};
 ghost use Rattle.policy.specs.Least.{leastIn};
 ghost use Rattle.region.specs.declared.search.Want.the-variants.{CaughtBy};
 ghost use Rattle.policy.specs.Rows.{rowSize, boxOf, rowsIn};
@@ -107,11 +110,26 @@ fn search_long(file: &[u8], n: usize, b: &[u32; SIDES], want: Want) -> Found
     search_decoded(file, n, &mut rows, b, want)
 }
 
-// The same for a list of either length.
+// Whether a good file's n records show without a search that no header is as wanted.
+fn is_settled(file: &[u8], n: usize, want: Want) -> bool
+    requires { ⌜ (length (now file) ≡ fileSize n) × (1 ≤ n) ⌝ }
+    ensures { λ t. ⌜ ((b : Box) → t ≡ true → leastIn headers b (treated want (entriesFrom (now (file .entry)) headSize n)) ≡ Nothing) ⌝ }
+{
+    match want {
+        Want::Uncaught => ends_with_all(file, n),
+        Want::CaughtBy(k) => n <= k,
+        Want::Differs(_) => false,
+    }
+}
+
+// The same for a list of either length. It is decoded only where it has to be searched.
 fn search_good(file: &[u8], n: usize, b: &[u32; SIDES], want: Want) -> Found
-    requires { ⌜ (length (now file) ≡ fileSize n) × (n ≤ listLimit) ⌝ }
+    requires { ⌜ (length (now file) ≡ fileSize n) × ((1 ≤ n) × (n ≤ listLimit)) ⌝ }
     ensures { λ r. ⌜ r ≡ leastIn headers (boxOf (now (b .entry)) 0) (treated want (entriesFrom (now (file .entry)) headSize n)) ⌝ }
 {
+    if is_settled(file, n, want) {
+        return Found::Nothing;
+    }
     if n <= FILED_LIMIT {
         return search_short(file, n, b, want);
     }

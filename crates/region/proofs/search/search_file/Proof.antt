@@ -17,8 +17,7 @@ enum-known-n c = search needs
 
 search-good-requires : tie.Need-search-good-requires
 search-good-requires c κs =
-    let g = good-size (c .before .before .before .before .before .args .file .now) listLimit (c .before .before .before .check-file .result) (c .before .before .before .check-file .ensures) _ (c .before .n .given .1) in
-    (g .0, g .1 .1)
+    good-size (c .before .before .before .before .before .args .file .now) listLimit (c .before .before .before .check-file .result) (c .before .before .before .check-file .ensures) _ (c .before .n .given .1)
 
 answer-requires : tie.Need-answer-requires
 answer-requires c κs = search needs
