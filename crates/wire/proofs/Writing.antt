@@ -8,7 +8,7 @@ use mathlib.Core.Bool.{true, false}
 use mathlib.Core.List.{List, [], _∷_, _++_, append-assoc, append-nil}
 use mathlib.Core.Option.{Option, none}
 use lib.ListN.{length, getD, take, drop, length-append}
-use lib.Seq.{paste, take-all, take-length, take-at, take-suc, drop-append-add, drop-drop, length-take-le}
+use lib.Seq.{paste, slice, length-slice, take-all, take-length, take-at, take-suc, drop-append-add, drop-drop, length-take-le, getD-take, getD-drop}
 use lib.Dec.{ltb}
 use borrow.Author.Tests.{lt-ltb, le-ltb}
 use Rattle.policy.specs.declared.entry.Entry.{Entry}
@@ -20,15 +20,14 @@ use Rattle.wire.specs.declared.check.Checked.{Checked}
 use Rattle.wire.specs.declared.check.Checked.the-variants.{Good, Refused}
 use Rattle.wire.specs.declared.list.Entries.{Entries}
 use Rattle.wire.specs.declared.write.Written.the-variants as answers
-use Rattle.wire.specs.Format.{headSize, recordSize, listLimit, entriesFrom, headOf, recordOf, recordsOf, fileSize, fileOf}
+use Rattle.wire.specs.Format.{headSize, recordSize, listLimit, headOf, recordOf, recordsOf, fileSize, fileOf}
 use Rattle.wire.specs.Checks.{outside, firstCrossed, refuseEntry, crossedOf, checked}
 use Rattle.wire.specs.Lists.{held}
 use Rattle.wire.specs.Writing.{placed, tooNarrow, writeAnswer, writing, writingOf}
 use Rattle.policy.proofs.Rows.{first-of-append, not-refused, refused-stays}
 use Rattle.wire.proofs.Answers.{after-accepted, after-refused}
 use Rattle.wire.proofs.Checks.{within-limits, entry-not-refused}
-use Rattle.wire.proofs.Records.{Bytes, records-from, length-records}
-use Rattle.wire.proofs.Entries.{length-entries}
+use Rattle.wire.proofs.Records.{length-records}
 
 -- bytes put after those that are placed already
 pub placed-next : (b w x c : List ℕ) (at : ℕ) → length w ≡ at → c ≡ placed w b → paste c at x (length x) ≡ placed (w ++ x) b
@@ -37,13 +36,6 @@ placed-next b w x c at l e =
     ∙ ap (λ (k : ℕ). paste (placed w b) k x (length x)) (sym l)
     ∙ (λ i. take-at w (drop (length w) b) (length w) refl i ++ take-length x i ++ drop-append-add w (drop (length w) b) (length x) i)
     ∙ ap (λ (t : List ℕ). w ++ x ++ t) (drop-drop (length x) (length w) b ∙ ap (λ (k : ℕ). drop k b) (sym (length-append w x)))
-
--- the file of n records that are at hand
-pub records-put : (b r c d : List ℕ) (n : ℕ) → Bytes r → length r ≡ recordSize * n → c ≡ placed (headOf n) b → d ≡ paste c headSize r (length r) → d ≡ placed (fileOf (entriesFrom r 0 n)) b
-records-put b r c d n f l e h =
-    h ∙ placed-next b (headOf n) r c headSize refl e
-    ∙ ap (λ (t : List ℕ). placed t b)
-    (sym (ap₂ (λ (m : ℕ) (t : List ℕ). headOf m ++ t) (length-entries r 0 n) (records-from r 0 n f (omega arith) ∙ take-all (recordSize * n) r (omega arith))))
 
 -- bytes placed over a head that is placed already
 pub placed-on-head : (n : ℕ) (r b : List ℕ) → placed (headOf n ++ r) (placed (headOf n) b) ≡ placed (headOf n ++ r) b
@@ -64,21 +56,31 @@ begun n es i = headOf n ++ recordsOf (take i es)
 pub length-begun : (n : ℕ) (es : List Entry) (i : ℕ) → i ≤ length es → length (begun n es i) ≡ headSize + recordSize * i
 length-begun n es i l = omega (arith, length-records (take i es) ∙ ap (recordSize *_) (length-take-le i es l))
 
-pub begun-next : (n : ℕ) (es : List Entry) (d : Entry) (b c : List ℕ) (i : ℕ) → i < length es → c ≡ placed (begun n es i) b
-    → paste c (headSize + recordSize * i) (recordOf (getD es i d)) recordSize ≡ placed (begun n es (i + 1)) b
-begun-next n es d b c i l e =
-    placed-next b (begun n es i) (recordOf (getD es i d)) c (headSize + recordSize * i) (length-begun n es i (omega arith)) e
+-- the next entry of a part of es
+pub begun-next : (n f t : ℕ) (es : List Entry) (d : Entry) (b c r : List ℕ) (i : ℕ) → t ≤ length es → f + i < t → c ≡ placed (begun n (slice f t es) i) b
+    → r ≡ paste c (headSize + recordSize * i) (recordOf (getD es (f + i) d)) recordSize → r ≡ placed (begun n (slice f t es) (i + 1)) b
+begun-next n f t es d b c r i m l e g =
+    g
+    ∙ ap (λ (x : Entry). paste c (headSize + recordSize * i) (recordOf x) recordSize) (sym (getD-drop f (take t es) i d ∙ getD-take t es (f + i) d l))
+    ∙ placed-next b (begun n p i) (recordOf (getD p i d)) c (headSize + recordSize * i) (length-begun n p i (omega (arith, short))) e
     ∙ ap (λ (t : List ℕ). placed (headOf n ++ t) b)
-    (sym (ap recordsOf (ap (λ (k : ℕ). take k es) (add-one i) ∙ take-suc es i d l) ∙ records-append (take i es) (getD es i d ∷ []) ∙ ap (recordsOf (take i es) ++_) (append-nil (recordOf (getD es i d)))))
+    (sym (ap recordsOf (ap (λ (k : ℕ). take k p) (add-one i) ∙ take-suc p i d short) ∙ records-append (take i p) (getD p i d ∷ []) ∙ ap (recordsOf (take i p) ++_) (append-nil (recordOf (getD p i d)))))
+  where
+    p : List Entry
+    p = slice f t es
+
+    short : i < length p
+    short = omega (arith, length-slice f t es m)
 
 pub begun-none : (n : ℕ) (es : List Entry) (b c : List ℕ) → c ≡ placed (headOf n) b → c ≡ placed (begun n es 0) c
 begun-none n es b c e = e ∙ sym (ap (placed (headOf n)) e)
 
-pub begun-all : (n : ℕ) (es : List Entry) (a b c : List ℕ) (i : ℕ) → i ≡ n → n ≤ length es → b ≡ placed (headOf n) a → c ≡ placed (begun n es i) b → c ≡ placed (fileOf (take n es)) a
+pub begun-all : (n : ℕ) (es : List Entry) (a b c : List ℕ) (i : ℕ) → i ≡ n → length es ≡ n → b ≡ placed (headOf n) a → c ≡ placed (begun n es i) b → c ≡ placed (fileOf es) a
 begun-all n es a b c i e l g h =
     h ∙ ap₂ (λ (t : List ℕ) (k : ℕ). placed (begun n es k) t) g e
-    ∙ placed-on-head n (recordsOf (take n es)) a
-    ∙ ap (λ (m : ℕ). placed (headOf m ++ recordsOf (take n es)) a) (sym (length-take-le n es l))
+    ∙ ap (λ (p : List Entry). placed (headOf n ++ recordsOf p) (placed (headOf n) a)) (take-all n es (omega arith))
+    ∙ placed-on-head n (recordsOf es) a
+    ∙ ap (λ (m : ℕ). placed (headOf m ++ recordsOf es) a) (sym l)
 
 -- ---- what is answered
 

@@ -63,6 +63,10 @@ abbrev pub entriesFrom : List ℕ → ℕ → ℕ → List Entry
 entriesFrom s at zero = []
 entriesFrom s at (suc n) = entryAt s at ∷ entriesFrom s (at + recordSize) n
 
+-- the whole records of a slice
+abbrev pub recordsIn : List ℕ → List Entry
+recordsIn s = entriesFrom s 0 (length s / recordSize)
+
 -- the list that a file holds
 abbrev pub listIn : List ℕ → List Entry
 listIn s = entriesFrom s headSize (countIn s)

@@ -1,5 +1,4 @@
 // Bytes put into a lent buffer.
-use crate::format::HEAD_SIZE;
 use crate::format::RECORD_SIZE;
 use crate::format::VERSION;
 use crate::record::record_of;
@@ -8,7 +7,7 @@ ghost use mathlib.Core.Path.{_≡_};
 ghost use Prim.Native.Nat.{_+_, _*_, _≤_};
 ghost use lib.ListN.{length};
 ghost use lib.Seq.{paste};
-ghost use Rattle.wire.specs.Format.{headSize, recordSize, listLimit, headOf, fileSize, recordOf, entriesFrom, fileOf};
+ghost use Rattle.wire.specs.Format.{headSize, recordSize, listLimit, headOf, recordOf};
 ghost use Rattle.wire.specs.Writing.{placed};
 
 // Copies bytes to a place.
@@ -54,13 +53,4 @@ pub(crate) fn put_head(buffer: &mut [u8], n: usize)
 {
     let bytes = head_of(n);
     put_bytes(buffer, 0, &bytes);
-}
-
-// Puts the file of n records at the start.
-pub fn put_records(buffer: &mut [u8], records: &[u8], n: usize)
-    requires { ⌜ (n ≤ listLimit) × ((length (now records) ≡ recordSize * n) × (fileSize n ≤ length (now buffer))) ⌝ }
-    ensures { λ _. ⌜ now (buffer .exit) ≡ placed (fileOf (entriesFrom (now (records .entry)) 0 n)) (now (buffer .entry)) ⌝ }
-{
-    put_head(buffer, n);
-    put_bytes(buffer, HEAD_SIZE, records);
 }

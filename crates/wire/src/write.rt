@@ -6,11 +6,13 @@ use crate::format::RECORD_SIZE;
 use crate::list::Entries;
 use crate::put::put_entry;
 use crate::put::put_head;
+use policy::entry::Entry;
 use policy::entry::is_crossed;
 use policy::refusal::Refusal;
 ghost use mathlib.Core.Path.{_≡_};
-ghost use Prim.Native.Nat.{_≤_};
+ghost use Prim.Native.Nat.{_-_, _≤_};
 ghost use lib.ListN.{length};
+ghost use lib.Seq.{slice};
 ghost use Rattle.wire.specs.Format.{listLimit, fileSize, fileOf};
 ghost use Rattle.wire.specs.Checks.{crossedOf, checked};
 ghost use Rattle.wire.specs.Lists.{held};
@@ -39,16 +41,16 @@ fn check_held(list: Entries) -> Checked
     Checked::Good(n)
 }
 
-// Puts a list's file at the start of a buffer.
-fn put_list(list: Entries, buffer: &mut [u8])
-    requires { ⌜ (list .count ≤ listLimit) × (fileSize (list .count) ≤ length (now buffer)) ⌝ }
-    ensures { λ _. ⌜ now (buffer .exit) ≡ placed (fileOf (held list)) (now (buffer .entry)) ⌝ }
+// Puts the file of the entries from one place up to another at the start of a buffer.
+pub fn put_entries(entries: [Entry; LIST_LIMIT], from: usize, to: usize, buffer: &mut [u8])
+    requires { ⌜ (from ≤ to) × ((to ≤ listLimit) × (fileSize (to - from) ≤ length (now buffer))) ⌝ }
+    ensures { λ _. ⌜ now (buffer .exit) ≡ placed (fileOf (slice from to entries)) (now (buffer .entry)) ⌝ }
 {
-    let count = list.count;
+    let count = to - from;
     put_head(buffer, count);
     let mut i: usize = 0;
     while i < count {
-        let e = list.entries[i];
+        let e = entries[from + i];
         put_entry(buffer, HEAD_SIZE + RECORD_SIZE * i, e);
         i += 1;
     }
@@ -72,7 +74,8 @@ pub fn write_list(list: Entries, buffer: &mut [u8]) -> Written
             if buffer.len() < size {
                 return Written::Refused(Refusal::Narrow(size));
             }
-            put_list(list, buffer);
+            let entries = list.entries;
+            put_entries(entries, 0, n, buffer);
             Written::Done(size)
         }
     }

@@ -36,8 +36,8 @@ add-size c = search needs
 returns-3 : tie.Need-returns-3
 returns-3 c = search narrow-refused
 
-put-list-requires : tie.Need-put-list-requires
-put-list-requires c κs = search needs
+put-entries-requires : tie.Need-put-entries-requires
+put-entries-requires c κs = search needs
 
 returns-4 : tie.Need-returns-4
 returns-4 c = search crossed-refused
@@ -60,7 +60,7 @@ write-list-spec =
     mul-size
     add-size
     returns-3
-    put-list-requires
+    put-entries-requires
     returns-4
     same-length
     returns-5)
