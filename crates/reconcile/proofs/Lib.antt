@@ -8,8 +8,9 @@ pub mod Judged
 pub mod Crossproduct
 pub mod Lexicographic
 pub mod Merging
-pub mod Packing
-pub mod Apart
+pub mod Beside
+pub mod Keeping
+pub mod Pairs
 pub mod Staging
 pub mod Finishing
 pub mod Writing

@@ -1,109 +1,73 @@
--- The working list from packed records, after the first party and after each next one.
+-- The working list after the first party and after each next one.
 -- Assumes nothing.
-use Prim.Native.Nat.{ℕ, _+_, _-_, _<_, _≤_, min}
+use Prim.Native.Nat.{ℕ, _+_, _-_, _*_, _<_, _≤_}
 use native.Mathlib.Omega.{arith}
+use native.Mathlib.Nat.{zero-add}
 use native.Mathlib.Numerals.{add-one}
-use mathlib.Core.Path.{_≡_, refl, sym, _∙_, ap}
-use mathlib.Core.Bool.{Bool, true, false, cond}
-use mathlib.Core.List.{List, [], _∷_, _++_, map, append-assoc, append-nil}
+use mathlib.Core.Path.{_≡_, refl, sym, _∙_, ap, ap₂, subst}
+use mathlib.Core.Bool.{Bool, true, false, not, cond, _&&_}
+use mathlib.Core.List.{List, [], _∷_, _++_}
 use mathlib.Core.Option.{Option, none, some}
-use lib.ListN.{length, take, getD, replicate}
-use lib.Seq.{take-suc, take-all, take-append-seam}
-use lib.Dec.{leb}
-use borrow.Author.Tests.{le-leb, lt-leb, leb-true, leb-false}
+use lib.ListN.{length, take, getD, set}
+use lib.Seq.{take-suc, take-all, paste}
 use Rattle.policy.specs.declared.entry.Entry.{Entry}
-use Rattle.policy.specs.Header.{Headers, headers}
-use Rattle.wire.specs.declared.list.Entries.{Entries}
-use Rattle.wire.specs.Format.{listLimit, entriesFrom}
-use Rattle.wire.specs.Lists.{emptyEntry, held, listed}
-use Rattle.wire.proofs.Lists.{zeroEntry}
+use Rattle.policy.specs.Header.{Box, lies, Headers, headers}
+use Rattle.policy.specs.Entry.{selector}
+use Rattle.policy.specs.Policy.{missed}
+use Rattle.policy.specs.Rows.{rowSize, rowsIn, numbersOf}
+use Rattle.wire.specs.Format.{recordSize, listLimit, entryAt, entriesFrom}
+use Rattle.wire.specs.Lists.{emptyEntry}
+use Rattle.wire.proofs.Entries.{length-entries, entries-at}
 use Rattle.reconcile.specs.declared.stage.Stage.{Stage}
-use Rattle.reconcile.specs.declared.stage.Stage.the-variants.{Bare, Kept}
-use Rattle.reconcile.specs.Crossproduct.{both}
-use Rattle.reconcile.specs.Rules.{cross, trimmed, Working, list, crowded, limited, next, nextAll, working, conflictOf, settled, finished, mergeOf}
+use Rattle.reconcile.specs.Rules.{noHeader, trimmed, Working, list, crowded, limited, next, nextAll, working, conflictOf, settled, finished, mergeOf}
 use Rattle.reconcile.specs.Pass.{offeredAll}
-use Rattle.reconcile.specs.Packed.{workingIn, Offers}
-use Rattle.reconcile.specs.Stage.{stageIn, added, addedAll, ended}
-use Rattle.reconcile.proofs.Pass.{offered-first, offered-next, offered-append}
+use Rattle.reconcile.specs.Stage.{workingIn, stageIn, added, addedAll, ended}
+use Rattle.reconcile.proofs.Pass.{offered-first}
+use Rattle.reconcile.proofs.Keeping.{working-crowded, working-list, Keeps, keeps-shadowed, keeps-kept}
 use Rattle.reconcile.proofs.Merging.{rule3-least}
 
--- ---- the working list of packed records
+-- ---- the first list
 
-module _ (s : List ℕ) (n : ℕ) where
-  pub working-crowded : listLimit < n → workingIn s n ≡ crowded
-  working-crowded l = ap (λ (b : Bool). cond b (list (entriesFrom s 0 n)) crowded) (lt-leb n listLimit l)
+first-more : (q : List Entry) (j : ℕ) → j < length q → take (j + 1) q ≡ take j q ++ getD q j emptyEntry ∷ []
+first-more q j l = ap (λ (k : ℕ). take k q) (add-one j) ∙ take-suc q j emptyEntry l
 
-  pub working-list : n ≤ listLimit → workingIn s n ≡ list (entriesFrom s 0 n)
-  working-list l = ap (λ (b : Bool). cond b (list (entriesFrom s 0 n)) crowded) (le-leb n listLimit l)
+module _ (s rows : List ℕ) (es : List Entry) (n j m : ℕ) (e : Entry) (b : Box) (t : Bool) (k : Keeps rows es n (take j (entriesFrom s 0 m))) (l : j < m)
+    (g : e ≡ entryAt s (recordSize * j)) (x : b ≡ selector e) (c : t ≡ not (noHeader headers λ h. missed (rowsIn (take (rowSize * n - 0) rows)) h && lies b h)) where
+  up : take (j + 1) (entriesFrom s 0 m) ≡ take j (entriesFrom s 0 m) ++ e ∷ []
+  up =
+      first-more (entriesFrom s 0 m) j (omega (arith, length-entries s 0 m))
+      ∙ ap (λ (d : Entry). take j (entriesFrom s 0 m) ++ d ∷ []) (entries-at s 0 m j emptyEntry l ∙ ap (entryAt s) (zero-add (recordSize * j)) ∙ sym g)
 
--- ---- a next one
+  pub first-shadowed : not t ≡ true → Keeps rows es n (take (j + 1) (entriesFrom s 0 m))
+  first-shadowed q = subst (Keeps rows es n) (sym up) (keeps-shadowed rows es n (take j (entriesFrom s 0 m)) e k t b c x q)
 
-cross-snoc : (p : List Entry) (d : Entry) (q : List Entry) → cross (p ++ d ∷ []) q ≡ cross p q ++ map (both d) q
-cross-snoc [] d q = append-nil (map (both d) q)
-cross-snoc (e ∷ p) d q = ap (map (both e) q ++_) (cross-snoc p d q) ∙ sym (append-assoc (map (both e) q) (cross p q) (map (both d) q))
+  pub first-kept : (r : List ℕ) → not t ≡ false → n < listLimit → r ≡ paste rows (rowSize * n) (numbersOf e) rowSize → Keeps r (set es n e) (n + 1) (take (j + 1) (entriesFrom s 0 m))
+  first-kept r q f h = subst (Keeps r (set es n e) (n + 1)) (sym up) (keeps-kept rows es n (take j (entriesFrom s 0 m)) e k t b c x r q f h)
 
-pub rows-none : (s : List ℕ) (es q : List Entry) → Offers s 0 (cross (take 0 es) q) s 0
-rows-none s es q = record { model = refl; size = refl }
-
-pub rows-next : (s r t : List ℕ) (m k i : ℕ) (es q : List Entry) → Offers s 0 (cross (take i es) q) r m → i < length es
-    → Offers r m (map (both (getD es i zeroEntry)) q) t k → Offers s 0 (cross (take (i + 1) es) q) t k
-rows-next s r t m k i es q o l w = record {
-  model =
-      w .model
-      ∙ ap (λ (v : Working). offeredAll headers v (map (both (getD es i zeroEntry)) q)) (o .model)
-      ∙ sym (offered-append headers (workingIn s 0) (cross (take i es) q) (map (both (getD es i zeroEntry)) q))
-      ∙ ap (offeredAll headers (workingIn s 0))
-      (sym (cross-snoc (take i es) (getD es i zeroEntry) q)
-      ∙ ap (λ (p : List Entry). cross p q) (sym (take-suc es i zeroEntry l) ∙ ap (λ (j : ℕ). take j es) (sym (add-one i))));
-  size = w .size ∙ o .size;
-}
-
-pub same-take : (a b : ℕ) (es : List Entry) → a ≡ b → take a es ≡ take b es
-same-take a b es e = ap (λ (k : ℕ). take k es) e
-
-pub held-within : (w : Entries) → length (w .entries) ≡ listLimit → take (min (w .count) listLimit) (w .entries) ≡ held w
-held-within w l = go (w .count) (w .entries) l (leb (w .count) listLimit) refl
-  where
-    least : (n : ℕ) → n ≤ listLimit → min n listLimit ≡ n
-    least n l = omega arith
-
-    go : (n : ℕ) (es : List Entry) → length es ≡ listLimit → (b : Bool) → leb n listLimit ≡ b → take (min n listLimit) es ≡ take n es
-    go n es l true t = same-take (min n listLimit) n es (least n (leb-true n listLimit t))
-    go n es l false t = take-all (min n listLimit) es (omega (arith, leb-false n listLimit t)) ∙ sym (take-all n es (omega (arith, leb-false n listLimit t)))
-
-pub rows-all : (s r : List ℕ) (n i : ℕ) (w : Entries) (q : List Entry) → length (w .entries) ≡ listLimit → min (w .count) listLimit ≤ i → i ≤ min (w .count) listLimit
-    → Offers s 0 (cross (take i (w .entries)) q) r n → workingIn r n ≡ next headers (list (held w)) q
-rows-all s r n i w q z l m o =
-    o .model
-    ∙ ap (λ (p : List Entry). offeredAll headers (list []) (cross p q)) (same-take i (min (w .count) listLimit) (w .entries) (equal i (min (w .count) listLimit) l m) ∙ held-within w z)
-    ∙ offered-next headers (held w) q
-  where
-    equal : (i n : ℕ) → n ≤ i → i ≤ n → i ≡ n
-    equal i n l m = omega arith
-
--- what is read into a list is held by it
-held-listed : (p : List Entry) → held (listed p) ≡ p
-held-listed p = take-append-seam p (replicate (listLimit - length p) emptyEntry)
-
-module _ (s : List ℕ) (n : ℕ) (q : List Entry) where
-  pub crowded-stays : listLimit < n → workingIn s n ≡ next headers (workingIn s n) q
-  crowded-stays l = working-crowded s n l ∙ sym (ap (λ (w : Working). next headers w q) (working-crowded s n l))
-
-  pub crossed-next : (r : List ℕ) (m : ℕ) (w : Entries) → n ≤ listLimit → w ≡ listed (entriesFrom s 0 n) → workingIn r m ≡ next headers (list (held w)) q
-      → workingIn r m ≡ next headers (workingIn s n) q
-  crossed-next r m w l e y =
-      y
-      ∙ ap (λ (p : List Entry). next headers (list p) q) (ap held e ∙ held-listed (entriesFrom s 0 n))
-      ∙ sym (ap (λ (v : Working). next headers v q) (working-list s n l))
+pub first-all : (s rows : List ℕ) (es : List Entry) (n j m : ℕ) → Keeps rows es n (take j (entriesFrom s 0 m)) → m ≤ j → some (workingIn es n) ≡ some (limited (trimmed headers (entriesFrom s 0 m)))
+first-all s rows es n j m k l =
+    ap some
+    (working-list es n (k .few)
+    ∙ sym (k .model)
+    ∙ ap (offeredAll headers (list [])) (take-all j (entriesFrom s 0 m) (omega (arith, length-entries s 0 m)))
+    ∙ offered-first headers (entriesFrom s 0 m))
 
 -- ---- a stage more
 
-module _ (x : Stage) (s r : List ℕ) (m : ℕ) (q : List Entry) where
-  pub added-first : x ≡ Bare → Offers s 0 q r m → stageIn (Kept m) r ≡ added headers (stageIn x s) q
-  added-first e o = ap some (o .model ∙ offered-first headers q) ∙ ap (λ (y : Stage). added headers (stageIn y s) q) (sym e)
+module _ (x : Stage) (q : List Entry) where
+  pub added-first : (v : Option Working) → x .bare ≡ true → v ≡ some (limited (trimmed headers q)) → v ≡ added headers (stageIn x) q
+  added-first v e y = y ∙ ap (λ (b : Bool). added headers (cond b none (some (workingIn (x .entries) (x .count)))) q) (sym e)
 
-  pub added-next : (n : ℕ) → x ≡ Kept n → workingIn r m ≡ next headers (workingIn s n) q → stageIn (Kept m) r ≡ added headers (stageIn x s) q
-  added-next n e y = ap some y ∙ ap (λ (z : Stage). added headers (stageIn z s) q) (sym e)
+  kept : x .bare ≡ false → (w : Working) → workingIn (x .entries) (x .count) ≡ w → added headers (stageIn x) q ≡ some (next headers w q)
+  kept e w y = ap₂ (λ (b : Bool) (w : Working). added headers (cond b none (some w)) q) e y
+
+  pub added-crowded : x .bare ≡ false → listLimit < x .count → stageIn x ≡ added headers (stageIn x) q
+  added-crowded e l =
+      ap₂ (λ (b : Bool) (w : Working). cond b none (some w)) e (working-crowded (x .entries) (x .count) l)
+      ∙ sym (kept e crowded (working-crowded (x .entries) (x .count) l))
+
+  pub added-next : (v : Option Working) → x .bare ≡ false → x .count ≤ listLimit → v ≡ some (next headers (list (take (x .count) (x .entries))) q) → v ≡ added headers (stageIn x) q
+  added-next v e l y = y ∙ sym (kept e (list (take (x .count) (x .entries))) (working-list (x .entries) (x .count) l))
 
 -- ---- the stages make the merging
 

@@ -1,22 +1,27 @@
 // The end of a merging: rules 3 and 4, and the file.
-use crate::packed::PACKED_SIZE;
+use crate::stage::ROWS;
 use crate::stage::Stage;
+use crate::strike::Struck;
 use crate::strike::least_conflict;
-use crate::strike::strike_records;
+use crate::strike::strike_entries;
+use policy::entry::Entry;
 use policy::header::Found;
 use policy::refusal::Refusal;
+use policy::sides::ROW;
 use wire::format::HEAD_SIZE;
 use wire::format::LIST_LIMIT;
 use wire::format::RECORD_SIZE;
-use wire::put::put_records;
+use wire::rows::put_row;
+use wire::write::put_entries;
 ghost use mathlib.Core.Path.{_≡_};
 ghost use mathlib.Core.Option.{some};
 ghost use Prim.Native.Nat.{_*_, _≤_};
-ghost use lib.ListN.{length};
+ghost use lib.ListN.{length, take};
+ghost use lib.Seq.{slice};
 ghost use Rattle.policy.specs.Header.{headers};
-ghost use Rattle.wire.specs.Format.{recordSize, listLimit, entriesFrom};
-ghost use Rattle.reconcile.specs.Rules.{merged};
-ghost use Rattle.reconcile.specs.Packed.{workingIn};
+ghost use Rattle.policy.specs.Rows.{rowSize, rowsFrom};
+ghost use Rattle.wire.specs.Format.{listLimit};
+ghost use Rattle.reconcile.specs.Rules.{list, merged};
 ghost use Rattle.reconcile.specs.Stage.{stageIn, ended};
 ghost use Rattle.reconcile.specs.Ending.{merging, mergingOf};
 
@@ -26,46 +31,60 @@ pub enum Merged {
     Refused(Refusal),
 }
 
-// Writes n records as a file.
-fn write_merged(records: &[u8], n: usize, buffer: &mut [u8]) -> Merged
-    requires { ⌜ (n ≤ listLimit) × (length (now records) ≡ recordSize * n) ⌝ }
-    ensures { λ r. ⌜ merging r (now (buffer .exit)) ≡ mergingOf (merged (entriesFrom (now (records .entry)) 0 n)) (now (buffer .entry)) ⌝ }
+// Writes what is left of the first n entries as a file.
+fn write_merged(left: Struck, n: usize, buffer: &mut [u8]) -> Merged
+    requires { ⌜ (left .first ≤ n) × (n ≤ listLimit) ⌝ }
+    ensures { λ r. ⌜ merging r (now (buffer .exit)) ≡ mergingOf (merged (slice (left .first) n (left .entries))) (now (buffer .entry)) ⌝ }
 {
-    let size = HEAD_SIZE + RECORD_SIZE * n;
+    let first = left.first;
+    let count = n - first;
+    let size = HEAD_SIZE + RECORD_SIZE * count;
     if buffer.len() < size {
         return Merged::Refused(Refusal::Narrow(size));
     }
-    put_records(buffer, records, n);
+    let entries = left.entries;
+    put_entries(entries, first, n, buffer);
     Merged::Done {
-        count: n,
+        count,
         length: size,
     }
 }
 
-// Rules 3 and 4 for a working list of n packed records, and the file of what is left.
-fn end_list(packed: &mut [u8], n: usize, buffer: &mut [u8]) -> Merged
-    requires { ⌜ length (now packed) ≡ recordSize * listLimit ⌝ }
-    ensures { λ r. ⌜ merging r (now (buffer .exit)) ≡ mergingOf (ended headers (some (workingIn (now (packed .entry)) n))) (now (buffer .entry)) ⌝ }
+// Puts the rows of the first n entries.
+fn put_rows(entries: [Entry; LIST_LIMIT], n: usize, rows: &mut [u32])
+    requires { ⌜ (n ≤ listLimit) × (length (now rows) ≡ rowSize * listLimit) ⌝ }
+    ensures { λ _. ⌜ rowsFrom (now (rows .exit)) 0 n ≡ take n entries ⌝ }
 {
-    if LIST_LIMIT < n {
-        return Merged::Refused(Refusal::Crowded);
-    }
-    let found = least_conflict(&packed[0..RECORD_SIZE * n]);
-    match found {
-        Found::At(h) => Merged::Refused(Refusal::Conflict(h)),
-        Found::Nothing => {
-            let top = strike_records(packed, n);
-            write_merged(&packed[RECORD_SIZE * top..RECORD_SIZE * n], n - top, buffer)
-        }
+    let mut i: usize = 0;
+    while i < n {
+        let e = entries[i];
+        put_row(rows, ROW * i, e);
+        i += 1;
     }
 }
 
-// Ends a merging: writes the merged list as a file to the start of a buffer, or says why not.
-pub fn end_merging(packed: &mut [u8; PACKED_SIZE], s: Stage, buffer: &mut [u8]) -> Merged
-    ensures { λ r. ⌜ merging r (now (buffer .exit)) ≡ mergingOf (ended headers (stageIn s (now (packed .entry)))) (now (buffer .entry)) ⌝ }
+// Rules 3 and 4 for a working list of n entries, and the file of what is left.
+fn end_list(entries: [Entry; LIST_LIMIT], n: usize, rows: &mut [u32], buffer: &mut [u8]) -> Merged
+    requires { ⌜ (n ≤ listLimit) × (length (now rows) ≡ rowSize * listLimit) ⌝ }
+    ensures { λ r. ⌜ merging r (now (buffer .exit)) ≡ mergingOf (ended headers (some (list (take n entries)))) (now (buffer .entry)) ⌝ }
 {
-    match s {
-        Stage::Bare => Merged::Refused(Refusal::Bare),
-        Stage::Kept(n) => end_list(packed, n, buffer),
+    put_rows(entries, n, rows);
+    match least_conflict(&rows[0..ROW * n]) {
+        Found::At(h) => Merged::Refused(Refusal::Conflict(h)),
+        Found::Nothing => write_merged(strike_entries(entries, n, rows), n, buffer),
     }
+}
+
+// Ends a merging: writes the merged list as a file to the start of a buffer, or says why not. The rows that are lent may hold anything.
+pub fn end_merging(s: Stage, rows: &mut [u32; ROWS], buffer: &mut [u8]) -> Merged
+    ensures { λ r. ⌜ merging r (now (buffer .exit)) ≡ mergingOf (ended headers (stageIn s)) (now (buffer .entry)) ⌝ }
+{
+    if s.bare {
+        return Merged::Refused(Refusal::Bare);
+    }
+    if LIST_LIMIT < s.count {
+        return Merged::Refused(Refusal::Crowded);
+    }
+    let entries = s.entries;
+    end_list(entries, s.count, rows, buffer)
 }

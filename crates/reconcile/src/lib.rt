@@ -1,6 +1,6 @@
 // Merging: crossing, dropping, conflict, striking.
+pub mod cross;
 pub mod ending;
-pub mod packed;
 pub mod pair;
 pub mod stage;
 pub mod strike;

@@ -1,23 +1,13 @@
 // A pair of entries, intersected.
 use policy::actions::shared_actions;
 use policy::entry::Entry;
+use policy::sides::greater;
+use policy::sides::lesser;
 ghost use mathlib.Core.Path.{_≡_};
 ghost use Prim.Native.Nat.{min, max};
 ghost use Rattle.reconcile.specs.Crossproduct.{both};
 
-// The greater and the lesser of two numbers, at each width of the format.
-fn greater4(a: u32, b: u32) -> u32
-    ensures { λ r. ⌜ r ≡ max a b ⌝ }
-{
-    if a < b { b } else { a }
-}
-
-fn lesser4(a: u32, b: u32) -> u32
-    ensures { λ r. ⌜ r ≡ min a b ⌝ }
-{
-    if a < b { a } else { b }
-}
-
+// The greater and the lesser of two numbers, at the narrower widths of the format.
 fn greater2(a: u16, b: u16) -> u16
     ensures { λ r. ⌜ r ≡ max a b ⌝ }
 {
@@ -47,10 +37,10 @@ pub(crate) fn both_entries(d: Entry, e: Entry) -> Entry
     ensures { λ r. ⌜ r ≡ both d e ⌝ }
 {
     Entry {
-        local_low: greater4(d.local_low, e.local_low),
-        local_high: lesser4(d.local_high, e.local_high),
-        remote_low: greater4(d.remote_low, e.remote_low),
-        remote_high: lesser4(d.remote_high, e.remote_high),
+        local_low: greater(d.local_low, e.local_low),
+        local_high: lesser(d.local_high, e.local_high),
+        remote_low: greater(d.remote_low, e.remote_low),
+        remote_high: lesser(d.remote_high, e.remote_high),
         local_port_low: greater2(d.local_port_low, e.local_port_low),
         local_port_high: lesser2(d.local_port_high, e.local_port_high),
         remote_port_low: greater2(d.remote_port_low, e.remote_port_low),

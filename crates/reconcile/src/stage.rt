@@ -1,69 +1,84 @@
-// The working list after the parties so far. It is handed on as packed records, and unpacked to be crossed.
-use crate::packed::PACKED_SIZE;
-use crate::packed::offer_list;
-use crate::packed::offer_row;
+// The working list after the parties so far.
+use crate::cross::cross_list;
+use crate::cross::is_left;
+use crate::cross::records_in;
+use policy::entry::Entry;
+use policy::entry::sides_of;
+use policy::sides::ROW;
 use wire::format::LIST_LIMIT;
-use wire::list::Entries;
-use wire::read::read_entries;
+use wire::format::RECORD_SIZE;
+use wire::list::EMPTY;
+use wire::record::read_entry;
+use wire::rows::put_row;
 ghost use mathlib.Core.Path.{_≡_};
-ghost use Prim.Native.Nat.{_*_, min};
+ghost use mathlib.Core.Option.{none, some};
+ghost use Prim.Native.Nat.{_*_};
 ghost use lib.ListN.{length};
 ghost use Rattle.policy.specs.Header.{headers};
-ghost use Rattle.wire.specs.Format.{recordSize, listLimit};
-ghost use Rattle.wire.specs.Lists.{held};
-ghost use Rattle.region.specs.Records.{recordsIn};
-ghost use Rattle.reconcile.specs.Rules.{list, next};
-ghost use Rattle.reconcile.specs.Packed.{workingIn};
-ghost use Rattle.reconcile.specs.Stage.{stageIn, added};
+ghost use Rattle.policy.specs.Rows.{rowSize};
+ghost use Rattle.wire.specs.Format.{listLimit};
+ghost use Rattle.reconcile.specs.Rules.{trimmed, limited};
+ghost use Rattle.reconcile.specs.Stage.{stageIn, filedIn, added};
 
-pub enum Stage {
-    // No list yet.
-    Bare,
-    // How many packed records are the working list; more than 256 say that it is crowded.
-    Kept(usize),
+// As many numbers as the rows of the longest list have.
+pub const ROWS: usize = ROW * LIST_LIMIT;
+
+pub struct Stage {
+    // The working list, in the first places.
+    pub entries: [Entry; LIST_LIMIT],
+    // How many entries it has; more than 256 say that it is crowded.
+    pub count: usize,
+    // Whether there was no list yet.
+    pub bare: bool,
 }
 
-// At most 256.
-fn within_limit(n: usize) -> usize
-    ensures { λ r. ⌜ r ≡ min n listLimit ⌝ }
+// The stage before the first list.
+pub fn no_list() -> Stage
+    ensures { λ r. ⌜ stageIn r ≡ none ⌝ }
 {
-    if n < LIST_LIMIT { n } else { LIST_LIMIT }
+    Stage {
+        entries: [EMPTY; LIST_LIMIT],
+        count: 0,
+        bare: true,
+    }
 }
 
-// The working list crossed with the next party's list, packed.
-fn cross_list(packed: &mut [u8], w: Entries, records: &[u8]) -> usize
-    requires { ⌜ length (now packed) ≡ recordSize * listLimit ⌝ }
-    ensures { λ r. ⌜ workingIn (now (packed .exit)) r ≡ next headers (list (held w)) (recordsIn (now (records .entry))) ⌝ }
+// Rule 2 for the records of the first list. They are fewer than the places.
+fn first_list(mut entries: [Entry; LIST_LIMIT], rows: &mut [u32], records: &[u8]) -> Stage
+    requires { ⌜ length (now rows) ≡ rowSize * listLimit ⌝ }
+    ensures { λ r. ⌜ stageIn r ≡ some (limited (trimmed headers (filedIn (now (records .entry))))) ⌝ }
 {
-    let count = within_limit(w.count);
+    let total = records_in(records);
     let mut n: usize = 0;
-    let mut i: usize = 0;
-    while i < count {
-        let d = w.entries[i];
-        n = offer_row(packed, n, d, records);
-        i += 1;
+    let mut j: usize = 0;
+    while j < total {
+        let e = read_entry(records, RECORD_SIZE * j);
+        let sides = sides_of(e);
+        j += 1;
+        if !is_left(&rows[0..ROW * n], &sides) {
+            continue;
+        }
+        entries[n] = e;
+        put_row(rows, ROW * n, e);
+        n += 1;
     }
-    n
+    Stage {
+        entries,
+        count: n,
+        bare: false,
+    }
 }
 
-// The same for a working list of n packed records.
-fn cross_packed(packed: &mut [u8], n: usize, records: &[u8]) -> usize
-    requires { ⌜ length (now packed) ≡ recordSize * listLimit ⌝ }
-    ensures { λ r. ⌜ workingIn (now (packed .exit)) r ≡ next headers (workingIn (now (packed .entry)) n) (recordsIn (now (records .entry))) ⌝ }
+// Rules 1 and 2 for the records of one party's list more. The rows that are lent may hold anything.
+pub fn add_list(s: Stage, rows: &mut [u32; ROWS], records: &[u8]) -> Stage
+    ensures { λ r. ⌜ stageIn r ≡ added headers (stageIn s) (filedIn (now (records .entry))) ⌝ }
 {
-    if LIST_LIMIT < n {
-        return n;
+    let entries = s.entries;
+    if s.bare {
+        return first_list(entries, rows, records);
     }
-    let w = read_entries(packed, 0, n);
-    cross_list(packed, w, records)
-}
-
-// Rules 1 and 2 for the records of one party's list more.
-pub fn add_list(packed: &mut [u8; PACKED_SIZE], s: Stage, records: &[u8]) -> Stage
-    ensures { λ r. ⌜ stageIn r (now (packed .exit)) ≡ added headers (stageIn s (now (packed .entry))) (recordsIn (now (records .entry))) ⌝ }
-{
-    match s {
-        Stage::Bare => Stage::Kept(offer_list(packed, 0, records)),
-        Stage::Kept(n) => Stage::Kept(cross_packed(packed, n, records)),
+    if LIST_LIMIT < s.count {
+        return s;
     }
+    cross_list(entries, s.count, rows, records)
 }

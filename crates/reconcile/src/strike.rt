@@ -1,48 +1,51 @@
-// Rules 3 and 4 on packed records.
-use crate::packed::put_record;
+// Rules 3 and 4 on the working list and its rows.
+use policy::entry::Entry;
 use policy::header::Found;
-use region::headers::whole;
+use policy::header::whole;
+use policy::sides::ROW;
+use policy::sides::actions_at;
+use policy::sides::row_sides;
 use region::treated::Sets;
 use region::treated::least_treated;
-use wire::format::RECORD_SIZE;
-use wire::record::read_actions;
-use wire::record::read_entry;
-use wire::record::read_selector;
+use wire::format::LIST_LIMIT;
+use wire::rows::put_row;
 ghost use mathlib.Core.Path.{_≡_};
 ghost use Prim.Native.Nat.{_-_, _*_, _≤_, _<_};
-ghost use lib.ListN.{length};
+ghost use lib.ListN.{length, take};
+ghost use lib.Seq.{slice};
 ghost use Rattle.policy.specs.Header.{headers};
 ghost use Rattle.policy.specs.Least.{least};
 ghost use Rattle.policy.specs.Policy.{allowed};
-ghost use Rattle.wire.specs.Format.{recordSize, entryAt, entriesFrom};
-ghost use Rattle.region.specs.Records.{recordsIn};
-ghost use Rattle.reconcile.specs.Rules.{isEmpty, needless};
-ghost use Rattle.reconcile.specs.Packed.{Strikes};
+ghost use Rattle.policy.specs.Rows.{rowSize, rowAt, rowsFrom, rowsIn};
+ghost use Rattle.wire.specs.Format.{listLimit};
+ghost use Rattle.reconcile.specs.Rules.{isEmpty, needless, struck};
 
 // Rule 3: the least header that the list allows no action.
-pub(crate) fn least_conflict(records: &[u8]) -> Found
-    ensures { λ r. ⌜ r ≡ least headers (λ h. isEmpty (allowed (recordsIn (now (records .entry))) h)) ⌝ }
+pub(crate) fn least_conflict(rows: &[u32]) -> Found
+    ensures { λ r. ⌜ r ≡ least headers (λ h. isEmpty (allowed (rowsIn (now (rows .entry))) h)) ⌝ }
 {
+    let all = whole();
     least_treated(
-        &records[0..0],
-        records,
-        whole(),
+        &rows[0..0],
+        rows,
+        &all,
         Sets::Same(0),
         false,
         Found::Nothing,
     )
 }
 
-// Whether record k is needless before those from place top on, of n.
-fn is_needless(packed: &[u8], k: usize, top: usize, n: usize) -> bool
-    requires { ⌜ (k < top) × ((top ≤ n) × (recordSize * n ≤ length (now packed))) ⌝ }
-    ensures { λ r. ⌜ r ≡ needless headers (entriesFrom (now (packed .entry)) 0 k) (entryAt (now (packed .entry)) (recordSize * k)) (entriesFrom (now (packed .entry)) (recordSize * top) (n - top)) ⌝ }
+// Whether row k is needless before those from place top on, of n.
+fn is_needless(rows: &[u32], k: usize, top: usize, n: usize) -> bool
+    requires { ⌜ (k < top) × ((top ≤ n) × (rowSize * n ≤ length (now rows))) ⌝ }
+    ensures { λ r. ⌜ r ≡ needless headers (rowsFrom (now (rows .entry)) 0 k) (rowAt (now (rows .entry)) (rowSize * k)) (rowsFrom (now (rows .entry)) (rowSize * top) (n - top)) ⌝ }
 {
+    let sides = row_sides(rows, ROW * k);
     let found = least_treated(
-        &packed[0..RECORD_SIZE * k],
-        &packed[RECORD_SIZE * top..RECORD_SIZE * n],
-        read_selector(packed, RECORD_SIZE * k),
-        Sets::Other(read_actions(packed, RECORD_SIZE * k)),
+        &rows[0..ROW * k],
+        &rows[ROW * top..ROW * n],
+        &sides,
+        Sets::Other(actions_at(rows, ROW * k)),
         true,
         Found::Nothing,
     );
@@ -52,20 +55,30 @@ fn is_needless(packed: &[u8], k: usize, top: usize, n: usize) -> bool
     }
 }
 
-// Rule 4: examines n records from last to first. What is left stands from the returned place on.
-pub(crate) fn strike_records(packed: &mut [u8], n: usize) -> usize
-    requires { ⌜ recordSize * n ≤ length (now packed) ⌝ }
-    ensures { λ r. ⌜ Strikes (now (packed .entry)) n (now (packed .exit)) r ⌝ }
+// Entries of which those from a place on are left.
+pub struct Struck {
+    pub entries: [Entry; LIST_LIMIT],
+    pub first: usize,
+}
+
+// Rule 4: examines the first n entries, which have these rows, from last to first. What is left is moved to the end of them.
+pub(crate) fn strike_entries(mut entries: [Entry; LIST_LIMIT], n: usize, rows: &mut [u32]) -> Struck
+    requires { ⌜ (n ≤ listLimit) × ((rowSize * n ≤ length (now rows)) × (rowsFrom (now rows) 0 n ≡ take n entries)) ⌝ }
+    ensures { λ r. ⌜ (r .first ≤ n) × (slice (r .first) n (r .entries) ≡ struck headers (take n entries)) ⌝ }
 {
     let mut top = n;
     let mut k = n;
     while 0 < k {
         k -= 1;
-        if !is_needless(packed, k, top, n) {
+        if !is_needless(rows, k, top, n) {
             top -= 1;
-            let e = read_entry(packed, RECORD_SIZE * k);
-            put_record(packed, top, e);
+            let e = entries[k];
+            entries[top] = e;
+            put_row(rows, ROW * top, e);
         }
     }
-    top
+    Struck {
+        entries,
+        first: top,
+    }
 }

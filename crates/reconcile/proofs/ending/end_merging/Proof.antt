@@ -1,27 +1,23 @@
 -- Each stage goes to its answer.
-use Rattle.reconcile.proofs.Writing.{ends-bare, ends-kept}
 use borrow.Author.Needs.{needs}
+use Rattle.reconcile.proofs.Writing.{ends-bare, ends-crowded, ends-list}
 use Rattle.reconcile.proofs.ending.end_merging.Statement.{statement}
 use Rattle.reconcile.proofs.ending.end_merging.Tie as tie
 
-enum-told : tie.Need-enum-told
-enum-told c = search needs
+returns : tie.Need-returns
+returns c = search (ends-bare, needs)
 
-enum-known-s : tie.Need-enum-known-s
-enum-known-s c = search needs
+returns-2 : tie.Need-returns-2
+returns-2 c = search (ends-crowded, needs)
 
 end-list-requires : tie.Need-end-list-requires
 end-list-requires c κs = search needs
 
-returns : tie.Need-returns
-returns c = search ends-bare
-
 same-length : tie.Need-same-length
 same-length c = search needs
 
-returns-2 : tie.Need-returns-2
-returns-2 c = search ends-kept
+returns-3 : tie.Need-returns-3
+returns-3 c = search (ends-list, needs)
 
 pub end-merging-spec : {M : Type 1} → statement M
-end-merging-spec =
-    tie.close (tie.spec enum-told enum-known-s end-list-requires returns same-length returns-2)
+end-merging-spec = tie.close (tie.spec returns returns-2 end-list-requires same-length returns-3)

@@ -3,17 +3,17 @@ use borrow.Author.Needs.{needs}
 use Rattle.reconcile.proofs.pair.both_entries.Statement.{statement}
 use Rattle.reconcile.proofs.pair.both_entries.Tie as tie
 
-greater4-requires : tie.Need-greater4-requires
-greater4-requires c κs = search needs
+greater-requires : tie.Need-greater-requires
+greater-requires c κs = search needs
 
-lesser4-requires : tie.Need-lesser4-requires
-lesser4-requires c κs = search needs
+lesser-requires : tie.Need-lesser-requires
+lesser-requires c κs = search needs
 
-greater4-requires-2 : tie.Need-greater4-requires-2
-greater4-requires-2 c κs = search needs
+greater-requires-2 : tie.Need-greater-requires-2
+greater-requires-2 c κs = search needs
 
-lesser4-requires-2 : tie.Need-lesser4-requires-2
-lesser4-requires-2 c κs = search needs
+lesser-requires-2 : tie.Need-lesser-requires-2
+lesser-requires-2 c κs = search needs
 
 greater2-requires : tie.Need-greater2-requires
 greater2-requires c κs = search needs
@@ -43,10 +43,10 @@ pub both-entries-spec : {M : Type 1} → statement M
 both-entries-spec =
     tie.close
     (tie.spec
-    greater4-requires
-    lesser4-requires
-    greater4-requires-2
-    lesser4-requires-2
+    greater-requires
+    lesser-requires
+    greater-requires-2
+    lesser-requires-2
     greater2-requires
     lesser2-requires
     greater2-requires-2

@@ -1,27 +1,24 @@
--- The first list is offered, a next one crossed.
-use Rattle.reconcile.proofs.Staging.{added-first, added-next}
+-- The first list is offered, a next one crossed; crowded stays crowded.
 use borrow.Author.Needs.{needs}
+use Rattle.reconcile.proofs.Staging.{added-first, added-crowded, added-next}
 use Rattle.reconcile.proofs.stage.add_list.Statement.{statement}
 use Rattle.reconcile.proofs.stage.add_list.Tie as tie
 
-enum-told : tie.Need-enum-told
-enum-told c = search needs
-
-offer-list-requires : tie.Need-offer-list-requires
-offer-list-requires c κs = search needs
-
-enum-known-s : tie.Need-enum-known-s
-enum-known-s c = search needs
-
-cross-packed-requires : tie.Need-cross-packed-requires
-cross-packed-requires c κs = search needs
+first-list-requires : tie.Need-first-list-requires
+first-list-requires c κs = search needs
 
 returns : tie.Need-returns
-returns c = search added-first
+returns c = search (added-first, needs)
 
 returns-2 : tie.Need-returns-2
-returns-2 c = search added-next
+returns-2 c = search (added-crowded, needs)
+
+cross-list-requires : tie.Need-cross-list-requires
+cross-list-requires c κs = search needs
+
+returns-3 : tie.Need-returns-3
+returns-3 c = search (added-next, needs)
 
 pub add-list-spec : {M : Type 1} → statement M
 add-list-spec =
-    tie.close (tie.spec enum-told offer-list-requires enum-known-s cross-packed-requires returns returns-2)
+    tie.close (tie.spec first-list-requires returns returns-2 cross-list-requires returns-3)

@@ -1,8 +1,14 @@
--- The search finds a header exactly if the list without the record differs.
-use Rattle.reconcile.proofs.Finishing.{needed-some, needless-none}
+-- The search finds a header exactly if the list without the entry differs.
 use borrow.Author.Needs.{needs}
+use Rattle.reconcile.proofs.Finishing.{needed-some, needless-none}
 use Rattle.reconcile.proofs.strike.is_needless.Statement.{statement}
 use Rattle.reconcile.proofs.strike.is_needless.Tie as tie
+
+mul-row-sides : tie.Need-mul-row-sides
+mul-row-sides c = search needs
+
+row-sides-requires : tie.Need-row-sides-requires
+row-sides-requires c κs = search needs
 
 mul-least-treated : tie.Need-mul-least-treated
 mul-least-treated c = search needs
@@ -22,6 +28,9 @@ mul-least-treated-2 c = search needs
 mul-least-treated-3 : tie.Need-mul-least-treated-3
 mul-least-treated-3 c = search needs
 
+mul-least-treated-4 : tie.Need-mul-least-treated-4
+mul-least-treated-4 c = search needs
+
 sub-least-treated-2 : tie.Need-sub-least-treated-2
 sub-least-treated-2 c = search needs
 
@@ -31,17 +40,11 @@ part-least-treated-start-2 c = search needs
 part-least-treated-end-2 : tie.Need-part-least-treated-end-2
 part-least-treated-end-2 c = search needs
 
-mul-read-selector : tie.Need-mul-read-selector
-mul-read-selector c = search needs
+mul-actions-at : tie.Need-mul-actions-at
+mul-actions-at c = search needs
 
-read-selector-requires : tie.Need-read-selector-requires
-read-selector-requires c κs = search needs
-
-mul-read-actions : tie.Need-mul-read-actions
-mul-read-actions c = search needs
-
-read-actions-requires : tie.Need-read-actions-requires
-read-actions-requires c κs = search needs
+actions-at-requires : tie.Need-actions-at-requires
+actions-at-requires c κs = search needs
 
 least-treated-requires : tie.Need-least-treated-requires
 least-treated-requires c κs = search needs
@@ -62,19 +65,20 @@ pub is-needless-spec : {M : Type 1} → statement M
 is-needless-spec =
     tie.close
     (tie.spec
+    mul-row-sides
+    row-sides-requires
     mul-least-treated
     sub-least-treated
     part-least-treated-start
     part-least-treated-end
     mul-least-treated-2
     mul-least-treated-3
+    mul-least-treated-4
     sub-least-treated-2
     part-least-treated-start-2
     part-least-treated-end-2
-    mul-read-selector
-    read-selector-requires
-    mul-read-actions
-    read-actions-requires
+    mul-actions-at
+    actions-at-requires
     least-treated-requires
     enum-told
     enum-told-2

@@ -1,0 +1,130 @@
+// Rules 1 and 2: the working list is crossed with a party's list, pair by pair in lexicographic order.
+use crate::pair::both_entries;
+use crate::stage::Stage;
+use policy::entry::Entry;
+use policy::entry::sides_of;
+use policy::header::Found;
+use policy::sides::ROW;
+use policy::sides::SIDES;
+use policy::sides::meets_row;
+use policy::sides::part_in_row;
+use region::least::least_missed;
+use wire::format::FILED_LIMIT;
+use wire::format::LIST_LIMIT;
+use wire::format::RECORD_SIZE;
+use wire::record::read_entry;
+use wire::rows::decode_records;
+use wire::rows::put_row;
+ghost use mathlib.Core.Path.{_≡_};
+ghost use mathlib.Core.Bool.{not, _&&_};
+ghost use mathlib.Core.Option.{some};
+ghost use Prim.Native.Nat.{_*_, _/_, _≤_, min};
+ghost use lib.ListN.{length, take};
+ghost use Rattle.policy.specs.Header.{lies, headers};
+ghost use Rattle.policy.specs.Policy.{missed};
+ghost use Rattle.policy.specs.Rows.{rowSize, boxOf, rowsIn};
+ghost use Rattle.wire.specs.Format.{recordSize, filedLimit, listLimit};
+ghost use Rattle.reconcile.specs.Rules.{noHeader, list, next};
+ghost use Rattle.reconcile.specs.Pass.{Apart, RowsOf};
+ghost use Rattle.reconcile.specs.Stage.{stageIn, filedIn};
+
+// Whether b has a header that the rows leave uncaught.
+pub(crate) fn is_left(rows: &[u32], b: &[u32; SIDES]) -> bool
+    ensures { λ t. ⌜ t ≡ not (noHeader headers λ h. missed (rowsIn (now (rows .entry))) h && lies (boxOf (now (b .entry)) 0) h) ⌝ }
+{
+    match least_missed(rows, b, Found::Nothing) {
+        Found::At(_) => true,
+        Found::Nothing => false,
+    }
+}
+
+// The first row from number j on that has a header in common with b; how many rows there are, if none has.
+fn next_meeting(rows: &[u32], j: usize, b: &[u32; SIDES]) -> usize
+    requires { ⌜ j ≤ length (now rows) / rowSize ⌝ }
+    ensures { λ k. ⌜ Apart (boxOf (now (b .entry)) 0) (rowsIn (now (rows .entry))) j k ⌝ }
+{
+    let total = rows.len() / ROW;
+    let mut k = j;
+    while k < total {
+        if meets_row(rows, ROW * k, b) {
+            return k;
+        }
+        k += 1;
+    }
+    k
+}
+
+// The first entries of the working list, as many as count says, crossed with a list of records, whose rows are theirs.
+// Most pairs have nothing in common, and are passed; of the others the entry is made if it is kept.
+fn cross_rows(
+    kept: [Entry; LIST_LIMIT],
+    count: usize,
+    rows: &mut [u32],
+    records: &[u8],
+    theirs: &[u32],
+) -> Stage
+    requires { ⌜ (count ≤ listLimit) × ((length (now rows) ≡ rowSize * listLimit) × RowsOf (now records) (now theirs)) ⌝ }
+    ensures { λ r. ⌜ stageIn r ≡ some (next headers (list (take count kept)) (rowsIn (now (theirs .entry)))) ⌝ }
+{
+    let total = theirs.len() / ROW;
+    let mut entries = kept;
+    let mut n: usize = 0;
+    let mut i: usize = 0;
+    let mut j: usize = 0;
+    while i < count {
+        let d = kept[i];
+        let sides = sides_of(d);
+        j = next_meeting(theirs, j, &sides);
+        if total <= j {
+            i += 1;
+            j = 0;
+            continue;
+        }
+        let part = part_in_row(theirs, ROW * j, &sides);
+        let at = RECORD_SIZE * j;
+        j += 1;
+        if !is_left(&rows[0..ROW * n], &part) {
+            continue;
+        }
+        if LIST_LIMIT <= n {
+            return Stage {
+                entries,
+                count: LIST_LIMIT + 1,
+                bare: false,
+            };
+        }
+        let e = both_entries(d, read_entry(records, at));
+        entries[n] = e;
+        put_row(rows, ROW * n, e);
+        n += 1;
+    }
+    Stage {
+        entries,
+        count: n,
+        bare: false,
+    }
+}
+
+// How many records are read of a slice: no more than a filed list has.
+pub(crate) fn records_in(records: &[u8]) -> usize
+    ensures { λ r. ⌜ r ≡ min (length (now (records .entry)) / recordSize) filedLimit ⌝ }
+{
+    let n = records.len() / RECORD_SIZE;
+    if n < FILED_LIMIT { n } else { FILED_LIMIT }
+}
+
+// The same for a slice of records, which are decoded once.
+pub(crate) fn cross_list(
+    kept: [Entry; LIST_LIMIT],
+    count: usize,
+    rows: &mut [u32],
+    records: &[u8],
+) -> Stage
+    requires { ⌜ (count ≤ listLimit) × (length (now rows) ≡ rowSize * listLimit) ⌝ }
+    ensures { λ r. ⌜ stageIn r ≡ some (next headers (list (take count kept)) (filedIn (now (records .entry)))) ⌝ }
+{
+    let total = records_in(records);
+    let mut theirs = [0u32; ROW * FILED_LIMIT];
+    decode_records(records, 0, total, &mut theirs);
+    cross_rows(kept, count, rows, records, &theirs[0..ROW * total])
+}
