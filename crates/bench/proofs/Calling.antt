@@ -19,16 +19,15 @@ use Rattle.policy.specs.Refusals.{Answer, refusal, accepted, isAccepted, refuse
 use Rattle.policy.proofs.Rows.{refusal-refuses, turns-away, goes-past}
 use Rattle.wire.specs.declared.check.Checked.{Checked}
 use Rattle.wire.specs.declared.check.Checked.the-variants.{Good, Refused}
-use Rattle.wire.specs.Format.{filedLimit, countIn, fileSize}
+use Rattle.wire.specs.Format.{filedLimit, countIn, fileSize, recordsIn}
 use Rattle.wire.specs.Checks.{checked}
 use Rattle.wire.proofs.Checks.{within-limits, none-outside, past-outside}
-use Rattle.region.specs.Records.{recordsIn}
 use Rattle.region.specs.ListChecks.{listChecks, listChecksOf}
 use Rattle.region.proofs.ListChecks.{good-passes, passes-tell}
 use Rattle.reconcile.specs.declared.ending.Merged.{Merged}
 use Rattle.reconcile.specs.declared.ending.Merged.the-variants as ending
 use Rattle.reconcile.specs.Rules.{Working, Merging}
-use Rattle.reconcile.specs.Stage.{addedAll, ended}
+use Rattle.reconcile.specs.Stage.{added, addedAll, ended}
 use Rattle.reconcile.specs.Ending as end
 use Rattle.reconcile.proofs.Staging.{stages-next, stages-end}
 use Rattle.bench.specs.declared.slots.Slot.{Slot}
@@ -41,8 +40,8 @@ use Rattle.bench.specs.declared.calls.MergeAnswer.{MergeAnswer}
 use Rattle.bench.specs.declared.calls.MergeAnswer.the-variants as merge
 use Rattle.bench.specs.Book.{parties, Book, inForce}
 use Rattle.bench.specs.Answers.{filed, badParty, filingOf, withdrew, isVacant, withdrawalOf, mergedAs, mergingOf}
-use Rattle.bench.specs.Held.{slotSize, vacantSlot, slotWith, bytesIn, listInSlot, bookOf, openBench, withSlot}
-use Rattle.bench.specs.Slots.{AllFit, SlotFits, afterSlot, stageWith}
+use Rattle.bench.specs.Held.{slotSize, vacantSlot, slotWith, bytesIn, slotList, listInSlot, bookOf, openBench, withSlot}
+use Rattle.bench.specs.Slots.{AllFit}
 use Rattle.bench.specs.Calls.{Call, filing, withdrawal, merging, benchFiled, benchWithdrawn, benchStep, benchAfter, bookAfter}
 use Rattle.bench.specs.Demand3.{Demand3}
 use Rattle.bench.proofs.Trace.{bench-more, book-after, all-covering, EachSlot, in-force}
@@ -173,28 +172,38 @@ each-snoc P (some p ∷ k) x e f = (e .0, each-snoc P k x (e .1) f)
 abbrev pub Staged : Bench → ℕ → Option Working → Type 0
 Staged b i w = (w ≡ addedAll headers none (inForce (take i (bookOf b)))) × EachSlot AllFit (take i (bookOf b))
 
-pub staged-none : (b : Bench) → Staged b 0 none
-staged-none b = (refl, tt)
+pub staged-none : (b : Bench) (w : Option Working) → w ≡ none → Staged b 0 w
+staged-none b w e = (e, tt)
 
-pub staged-next : (b : Bench) (i : ℕ) (w v : Option Working) → length (b .slots) ≡ 8 → i < 8 → Staged b i w
-    → (v ≡ afterSlot w (getD (b .slots) i noSlot)) × SlotFits (listInSlot (getD (b .slots) i noSlot)) → Staged b (i + 1) v
-staged-next b i w v n l e f = subst (λ (k : Book). (v ≡ addedAll headers none (inForce k)) × EachSlot AllFit k) (sym more) (one (listInSlot (getD (b .slots) i noSlot)) (f .0) (f .1))
-  where
-    k : Book
-    k = take i (bookOf b)
+module _ (b : Bench) (i : ℕ) (w : Option Working) (n : length (b .slots) ≡ 8) (l : i < 8) (e : Staged b i w) where
+  abbrev slot : Slot
+  slot = getD (b .slots) i noSlot
 
-    long : (m : ℕ) → m ≡ 8 → i < m
-    long m e = omega arith
+  abbrev k : Book
+  k = take i (bookOf b)
 
-    more : take (i + 1) (bookOf b) ≡ k ++ listInSlot (getD (b .slots) i noSlot) ∷ []
-    more =
-        ap (λ (n : ℕ). take n (bookOf b)) (add-one i)
-        ∙ take-suc (bookOf b) i none (long (length (bookOf b)) (length-map (b .slots) listInSlot ∙ n))
-        ∙ ap (λ (x : Option (List Entry)). k ++ x ∷ []) (List·getD-map listInSlot (b .slots) i noSlot)
+  more : (x : Option (List Entry)) → listInSlot slot ≡ x → take (i + 1) (bookOf b) ≡ k ++ x ∷ []
+  more x q =
+      ap (λ (n : ℕ). take n (bookOf b)) (add-one i)
+      ∙ take-suc (bookOf b) i none (long (length (bookOf b)) (length-map (b .slots) listInSlot ∙ n))
+      ∙ ap (λ (x : Option (List Entry)). k ++ x ∷ []) (List·getD-map listInSlot (b .slots) i noSlot ∙ q)
+    where
+      long : (m : ℕ) → m ≡ 8 → i < m
+      long m e = omega arith
 
-    one : (x : Option (List Entry)) → v ≡ stageWith w x → SlotFits x → (v ≡ addedAll headers none (inForce (k ++ x ∷ []))) × EachSlot AllFit (k ++ x ∷ [])
-    one none q g = (q ∙ e .0 ∙ ap (addedAll headers none) (sym (inForce-snoc k none ∙ append-nil (inForce k))), each-snoc AllFit k none (e .1) tt)
-    one (some p) q g = (stages-next (inForce k) p w v (e .0) q ∙ ap (addedAll headers none) (sym (inForce-snoc k (some p))), each-snoc AllFit k (some p) (e .1) (g, tt))
+  pub staged-vacant : slot .length ≡ 0 → Staged b (i + 1) w
+  staged-vacant z =
+      let q = more none (ap (λ (t : Bool). cond t none (some (slotList slot))) (eq-eqb (slot .length) 0 z)) in
+      subst (λ (k : Book). (w ≡ addedAll headers none (inForce k)) × EachSlot AllFit k) (sym q)
+      (e .0 ∙ ap (addedAll headers none) (sym (inForce-snoc k none ∙ append-nil (inForce k))), each-snoc AllFit k none (e .1) tt)
+
+  pub staged-next : (v : Option Working) → (slot .length ≡ 0 → ⊥) → (v ≡ added headers w (slotList slot)) × AllFit (slotList slot) → Staged b (i + 1) v
+  staged-next v z f =
+      let q = more (some (slotList slot)) (ap (λ (t : Bool). cond t none (some (slotList slot))) (ne-eqb (slot .length) 0 z)) in
+      subst (λ (k : Book). (v ≡ addedAll headers none (inForce k)) × EachSlot AllFit k) (sym q) (
+        stages-next (inForce k) (slotList slot) w v (e .0) (f .0) ∙ ap (addedAll headers none) (sym (inForce-snoc k (some (slotList slot)))),
+        each-snoc AllFit k (some (slotList slot)) (e .1) (f .1, tt),
+      )
 
 abbrev pub MergedRight : Bench → List ℕ → MergeAnswer → List ℕ → Bench → Type 0
 MergedRight b buffer a after r =

@@ -1,24 +1,24 @@
 -- What the functions on slots show.
 -- Assumes nothing.
-use Prim.Native.Nat.{ℕ, zero, suc, _+_, _-_, _/_, _<_, _≤_, min}
+use Prim.Native.Nat.{ℕ, zero, suc, _+_, _-_, _*_, _/_, _≤_, min, max}
 use native.Mathlib.Omega.{arith}
-use mathlib.Core.Path.{_≡_, sym, _∙_, ap, ap₂, subst}
-use mathlib.Core.Bool.{Bool, cond}
+use mathlib.Core.Path.{_≡_, refl, sym, _∙_, ap, ap₂, subst}
+use mathlib.Core.Bool.{Bool, true, false}
 use mathlib.Core.List.{List, [], _∷_, _++_}
-use mathlib.Core.Option.{Option, none, some}
-use lib.ListN.{length, take, drop, replicate, length-take, drop-of-length-le}
+use mathlib.Core.Option.{Option}
+use lib.Dec.{leb}
+use lib.ListN.{length, take, drop, replicate, length-take, length-drop}
 use lib.Seq.{paste, take-length, take-all, take-nil}
-use native.Mathlib.Nat.{le-trans, le-of-eq}
-use borrow.Author.Tests.{eq-eqb, ne-eqb}
+use borrow.Author.Tests.{leb-true, leb-false}
 use Rattle.policy.specs.Header.{headers}
-use Rattle.wire.specs.Format.{headSize, recordSize}
+use Rattle.policy.specs.declared.entry.Entry.{Entry}
+use Rattle.wire.specs.Format.{headSize, recordSize, filedLimit, entriesFrom, recordsIn}
 use Rattle.wire.proofs.Records.{Bytes, entries-fit}
-use Rattle.region.specs.Records.{recordsIn}
 use Rattle.reconcile.specs.Rules.{Working}
-use Rattle.reconcile.specs.Stage.{added}
+use Rattle.reconcile.specs.Stage.{filedIn, added}
 use Rattle.bench.specs.declared.slots.Slot.{Slot}
-use Rattle.bench.specs.Held.{slotSize, slotWith, bytesIn, listInSlot}
-use Rattle.bench.specs.Slots.{AllFit, SlotFits, stageWith, afterSlot}
+use Rattle.bench.specs.Held.{slotSize, slotWith, bytesIn, slotList}
+use Rattle.bench.specs.Slots.{AllFit}
 
 -- ---- a file in a slot
 
@@ -49,20 +49,8 @@ slot-made s b e =
 
 -- ---- the list of a slot
 
-pub records-fit : (s : List ℕ) → Bytes s → AllFit (recordsIn s)
-records-fit s f = entries-fit s 0 (length s / recordSize) f
-
-pub vacant-adds : (s : Option Working) (slot : Slot) → slot .length ≡ 0 → (s ≡ afterSlot s slot) × SlotFits (listInSlot slot)
-vacant-adds s slot e =
-    let q : listInSlot slot ≡ none = ap (λ (b : Bool). cond b none (some (recordsIn (drop headSize (bytesIn slot))))) (eq-eqb (slot .length) 0 e) in
-    (sym (ap (stageWith s) q), subst SlotFits (sym q) tt)
-
--- the bytes lent are those behind the head of the slot's file
-adds : (s r : Option Working) (slot : Slot) (t : List ℕ) → (slot .length ≡ 0 → ⊥) → t ≡ drop headSize (bytesIn slot)
-    → (r ≡ added headers s (recordsIn t)) × AllFit (recordsIn t) → (r ≡ afterSlot s slot) × SlotFits (listInSlot slot)
-adds s r slot t n e f =
-    let q : listInSlot slot ≡ some (recordsIn t) = ap (λ (b : Bool). cond b none (some (recordsIn (drop headSize (bytesIn slot))))) (ne-eqb (slot .length) 0 n) ∙ ap (λ (l : List ℕ). some (recordsIn l)) (sym e) in
-    (f .0 ∙ sym (ap (stageWith s) q), subst SlotFits (sym q) (f .1))
+pub records-fit : (s : List ℕ) → Bytes s → AllFit (filedIn s)
+records-fit s f = entries-fit s 0 (min (length s / recordSize) filedLimit) f
 
 drop-take : (k n : ℕ) (l : List ℕ) → drop k (take n l) ≡ take (n - k) (drop k l)
 drop-take zero n l = ap (λ (m : ℕ). take m l) (less n)
@@ -83,26 +71,30 @@ drop-take (suc k) (suc n) (x ∷ l) = drop-take k n l ∙ ap (λ (m : ℕ). take
     less : (n k : ℕ) → n - k ≡ suc n - suc k
     less n k = omega arith
 
-module _ (s r : Option Working) (slot : Slot) where
-  pub short-adds : (slot .length ≡ 0 → ⊥) → slot .length < headSize
-      → (r ≡ added headers s (recordsIn (take (0 - 0) (drop 0 (slot .bytes))))) × AllFit (recordsIn (take (0 - 0) (drop 0 (slot .bytes))))
-      → (r ≡ afterSlot s slot) × SlotFits (listInSlot slot)
-  short-adds n l f = adds s r slot (take (0 - 0) (drop 0 (slot .bytes))) n
-      (sym (drop-of-length-le (bytesIn slot) (le-trans (le-of-eq (length-take (slot .length) (slot .bytes))) (small (slot .length) (length (slot .bytes)) l)))) f
-    where
-      small : (n m : ℕ) → n < headSize → min n m ≤ headSize
-      small n m l = omega arith
+-- the bytes lent are those behind the head of the slot's file
+pub slot-adds : (s r : Option Working) (slot : Slot) (end : ℕ) → length (slot .bytes) ≡ slotSize → end ≡ max headSize (min (slot .length) slotSize)
+    → (r ≡ added headers s (filedIn (take (end - headSize) (drop headSize (slot .bytes))))) × AllFit (filedIn (take (end - headSize) (drop headSize (slot .bytes))))
+    → (r ≡ added headers s (slotList slot)) × AllFit (slotList slot)
+slot-adds s r slot end z e f =
+    subst (λ (p : List Entry). (r ≡ added headers s p) × AllFit p) (ap (entriesFrom t 0) (few (length t) (omega (arith, length-drop headSize (slot .bytes), length-take (end - headSize) (drop headSize (slot .bytes))))) ∙ ap recordsIn same) f
+  where
+    t : List ℕ
+    t = take (end - headSize) (drop headSize (slot .bytes))
 
-  pub long-adds : (slot .length ≡ 0 → ⊥) → slotSize < slot .length → length (slot .bytes) ≡ slotSize
-      → (r ≡ added headers s (recordsIn (take (slotSize - headSize) (drop headSize (slot .bytes))))) × AllFit (recordsIn (take (slotSize - headSize) (drop headSize (slot .bytes))))
-      → (r ≡ afterSlot s slot) × SlotFits (listInSlot slot)
-  long-adds n l m f = adds s r slot (take (slotSize - headSize) (drop headSize (slot .bytes))) n
-      (sym (drop-take headSize slotSize (slot .bytes)) ∙ ap (drop headSize) (take-all slotSize (slot .bytes) (le-of-eq m) ∙ sym (take-all (slot .length) (slot .bytes) (le-trans (le-of-eq m) (weak (slot .length) l))))) f
-    where
-      weak : (n : ℕ) → slotSize < n → slotSize ≤ n
-      weak n l = omega arith
+    few : (n : ℕ) → n ≤ recordSize * filedLimit → min (n / recordSize) filedLimit ≡ n / recordSize
+    few n l = omega arith
 
-  pub whole-adds : (slot .length ≡ 0 → ⊥)
-      → (r ≡ added headers s (recordsIn (take (slot .length - headSize) (drop headSize (slot .bytes))))) × AllFit (recordsIn (take (slot .length - headSize) (drop headSize (slot .bytes))))
-      → (r ≡ afterSlot s slot) × SlotFits (listInSlot slot)
-  whole-adds n f = adds s r slot (take (slot .length - headSize) (drop headSize (slot .bytes))) n (sym (drop-take headSize (slot .length) (slot .bytes))) f
+    behind : List ℕ
+    behind = drop headSize (slot .bytes)
+
+    short : (n : ℕ) → n ≤ slotSize → max headSize (min n slotSize) - headSize ≡ n - headSize
+    short n l = omega arith
+
+    same : t ≡ drop headSize (bytesIn slot)
+    same = go (leb (slot .length) slotSize) refl ∙ sym (drop-take headSize (slot .length) (slot .bytes))
+      where
+        go : (b : Bool) → leb (slot .length) slotSize ≡ b → t ≡ take (slot .length - headSize) behind
+        go true q = ap (λ (n : ℕ). take (n - headSize) behind) e ∙ ap (λ (n : ℕ). take n behind) (short (slot .length) (leb-true (slot .length) slotSize q))
+        go false q =
+            let m = leb-false (slot .length) slotSize q in
+            take-all (end - headSize) behind (omega (arith, length-drop headSize (slot .bytes))) ∙ sym (take-all (slot .length - headSize) behind (omega (arith, length-drop headSize (slot .bytes))))

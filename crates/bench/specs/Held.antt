@@ -6,8 +6,7 @@ use mathlib.Core.Option.{Option, none, some}
 use lib.Dec.{eqb}
 use lib.ListN.{length, take, drop, set, replicate}
 use Rattle.policy.specs.declared.entry.Entry.{Entry}
-use Rattle.wire.specs.Format.{headSize, filedLimit, fileSize}
-use Rattle.region.specs.Records.{recordsIn}
+use Rattle.wire.specs.Format.{headSize, filedLimit, fileSize, recordsIn}
 use Rattle.bench.specs.declared.slots.Slot.{Slot}
 use Rattle.bench.specs.declared.calls.Bench.{Bench}
 use Rattle.bench.specs.Book.{parties, Book}
@@ -27,9 +26,13 @@ slotWith s = record { bytes = s ++ replicate (slotSize - length s) 0; length = l
 abbrev pub bytesIn : Slot → List ℕ
 bytesIn s = take (s .length) (s .bytes)
 
--- the list that a slot has in force: the records behind the head of its file
+-- the records behind the head of its file
+abbrev pub slotList : Slot → List Entry
+slotList s = recordsIn (drop headSize (bytesIn s))
+
+-- the list that a slot has in force
 abbrev pub listInSlot : Slot → Option (List Entry)
-listInSlot s = cond (eqb (s .length) 0) none (some (recordsIn (drop headSize (bytesIn s))))
+listInSlot s = cond (eqb (s .length) 0) none (some (slotList s))
 
 abbrev pub bookOf : Bench → Book
 bookOf b = map listInSlot (b .slots)

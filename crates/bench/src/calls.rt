@@ -6,11 +6,10 @@ use crate::slots::vacant_slot;
 use policy::refusal::Refusal;
 use reconcile::ending::Merged;
 use reconcile::ending::end_merging;
-use reconcile::packed::PACKED_SIZE;
-use reconcile::stage::Stage;
+use reconcile::stage::ROWS;
+use reconcile::stage::no_list;
 use region::covering::check_list;
 use wire::check::Checked;
-use wire::format::FILED_LIMIT;
 ghost use mathlib.Core.Path.{_≡_};
 ghost use mathlib.Core.List.{List, [], _∷_, _++_};
 ghost use Prim.Native.Nat.{ℕ};
@@ -84,7 +83,7 @@ impl Bench {
                 answer: FileAnswer::Refused(Refusal::Party),
             };
         }
-        let checked = check_list(bytes, FILED_LIMIT);
+        let checked = check_list(bytes);
         match checked {
             Checked::Refused(r) => FileResult {
                 bench: self,
@@ -142,15 +141,18 @@ impl Bench {
             → (benchAfter (cs ++ (merging (now (out .entry)) ∷ [])) ≡ r .bench)
             × Demand3 (inForce (bookAfter cs)) (now (out .entry)) (mergedAs (r .answer)) (now (out .exit))) ⌝ }
     {
-        let mut packed = [0u8; PACKED_SIZE];
-        let mut stage = Stage::Bare;
+        let mut rows = [0u32; ROWS];
+        let mut stage = no_list();
         let mut i: usize = 0;
         while i < 8 {
             let slot = self.slots[i];
-            stage = add_slot(&mut packed, stage, slot);
             i += 1;
+            if slot.length == 0 {
+                continue;
+            }
+            stage = add_slot(stage, &mut rows, slot);
         }
-        let merged = end_merging(&mut packed, stage, out);
+        let merged = end_merging(stage, &mut rows, out);
         match merged {
             Merged::Done { count, length } => MergeResult {
                 bench: self,

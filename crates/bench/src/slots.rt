@@ -1,5 +1,5 @@
 // The slot of a party: the file that it filed.
-use reconcile::packed::PACKED_SIZE;
+use reconcile::stage::ROWS;
 use reconcile::stage::Stage;
 use reconcile::stage::add_list;
 use wire::format::FILED_LIMIT;
@@ -7,13 +7,13 @@ use wire::format::HEAD_SIZE;
 use wire::format::RECORD_SIZE;
 use wire::put::put_bytes;
 ghost use mathlib.Core.Path.{_≡_};
-ghost use Prim.Native.Nat.{_≤_};
+ghost use Prim.Native.Nat.{_≤_, min, max};
 ghost use lib.ListN.{length};
 ghost use Rattle.policy.specs.Header.{headers};
-ghost use Rattle.region.specs.Records.{recordsIn};
-ghost use Rattle.reconcile.specs.Stage.{stageIn, added};
-ghost use Rattle.bench.specs.Held.{slotSize, vacantSlot, slotWith, listInSlot};
-ghost use Rattle.bench.specs.Slots.{AllFit, SlotFits, afterSlot};
+ghost use Rattle.wire.specs.Format.{headSize};
+ghost use Rattle.reconcile.specs.Stage.{stageIn, filedIn, added};
+ghost use Rattle.bench.specs.Held.{slotSize, vacantSlot, slotWith, slotList};
+ghost use Rattle.bench.specs.Slots.{AllFit};
 
 // As many bytes as the longest filed list has.
 pub const SLOT_SIZE: usize = HEAD_SIZE + RECORD_SIZE * FILED_LIMIT;
@@ -48,26 +48,30 @@ pub(crate) fn slot_with(file: &[u8]) -> Slot
 }
 
 // Rules 1 and 2 for a lent list more. Its numbers fit their widths, since they are read from bytes.
-fn add_records(packed: &mut [u8; PACKED_SIZE], s: Stage, records: &[u8]) -> Stage
-    ensures { λ r. ⌜ (stageIn r (now (packed .exit)) ≡ added headers (stageIn s (now (packed .entry))) (recordsIn (now (records .entry)))) × AllFit (recordsIn (now (records .entry))) ⌝ }
+fn add_records(s: Stage, rows: &mut [u32; ROWS], records: &[u8]) -> Stage
+    ensures { λ r. ⌜ (stageIn r ≡ added headers (stageIn s) (filedIn (now (records .entry)))) × AllFit (filedIn (now (records .entry))) ⌝ }
 {
-    add_list(packed, s, records)
+    add_list(s, rows, records)
 }
 
-// Rules 1 and 2 for a slot's list, if it has one. For every value of a slot: no more than its bytes are read.
-pub(crate) fn add_slot(packed: &mut [u8; PACKED_SIZE], s: Stage, slot: Slot) -> Stage
-    ensures { λ r. ⌜ (stageIn r (now (packed .exit)) ≡ afterSlot (stageIn s (now (packed .entry))) slot) × SlotFits (listInSlot slot) ⌝ }
+// Where the records end in a slot whose file has a length.
+fn records_end(length: usize) -> usize
+    ensures { λ r. ⌜ r ≡ max headSize (min length slotSize) ⌝ }
 {
-    let n = slot.length;
-    if n == 0 {
-        return s;
+    if length < HEAD_SIZE {
+        return HEAD_SIZE;
     }
+    if length < SLOT_SIZE {
+        return length;
+    }
+    SLOT_SIZE
+}
+
+// Rules 1 and 2 for the list of a slot. For every value of a slot: no more than its bytes are read.
+pub(crate) fn add_slot(s: Stage, rows: &mut [u32; ROWS], slot: Slot) -> Stage
+    ensures { λ r. ⌜ (stageIn r ≡ added headers (stageIn s) (slotList slot)) × AllFit (slotList slot) ⌝ }
+{
+    let end = records_end(slot.length);
     let bytes = slot.bytes;
-    if n < HEAD_SIZE {
-        return add_records(packed, s, &bytes[0..0]);
-    }
-    if SLOT_SIZE < n {
-        return add_records(packed, s, &bytes[HEAD_SIZE..SLOT_SIZE]);
-    }
-    add_records(packed, s, &bytes[HEAD_SIZE..n])
+    add_records(s, rows, &bytes[HEAD_SIZE..end])
 }
