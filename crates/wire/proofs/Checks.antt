@@ -15,14 +15,12 @@ use borrow.Author.Tests.{ltb-false, eqb-true, lt-ltb, le-ltb, eq-eqb, ne-eqb}
 use Rattle.policy.specs.declared.entry.Entry.{Entry}
 use Rattle.policy.specs.declared.refusal.Refusal.the-variants.{Missized, Version, Count, Crossed}
 use Rattle.policy.specs.Refusals.{Answer, refusal, accepted, refuse, firstOf}
-use Rattle.policy.specs.Box.{proper}
-use Rattle.policy.specs.Header.{arity}
-use Rattle.policy.specs.Entry.{selector, crossed}
+use Rattle.policy.specs.Entry.{crossed}
 use Rattle.policy.proofs.Bool.{not-false, clash, or-left, or-right}
 use Rattle.wire.specs.Format.{version, headSize, recordSize, lengthIn, versionIn, countIn, entryAt, entriesFrom}
 use Rattle.wire.specs.Lists.{emptyEntry}
 use Rattle.policy.proofs.Rows.{Refuse, refusal-clash}
-use Rattle.wire.proofs.Entries.{entries-at}
+use Rattle.wire.proofs.Entries.{length-entries, entries-at}
 use Rattle.wire.specs.Checks.{missized, badVersion, outside, badCount, firstCrossedFrom, firstCrossed, refuseEntry, crossedOf, checksOf}
 
 -- an `or` that is false
@@ -136,10 +134,26 @@ crossed-none p n e = rw e
 pub scanned-all : (p : List Entry) (n i : ℕ) → length p ≤ i → Scanned p i → accepted (n ∷ []) ≡ crossedOf p n
 scanned-all p n i l h = crossed-none p n (h ∙ ap (firstCrossedFrom i) (drop-of-length-le p l))
 
--- what the test of a record says of the entry
-pub entry-crossed : (s : List ℕ) (n i : ℕ) (t u : Bool) → i < n → t ≡ proper arity (selector (entryAt s (headSize + recordSize * i))) → not t ≡ u
-    → crossed (getD (entriesFrom s headSize n) i emptyEntry) ≡ u
-entry-crossed s n i t u l q r = ap crossed (entries-at s headSize n i emptyEntry l) ∙ sym (ap not q) ∙ r
+-- the same of the n records of a file: record number i was read and tested
+module _ (s : List ℕ) (n i : ℕ) where
+  abbrev list : List Entry
+  list = entriesFrom s headSize n
+
+  module _ (e : Entry) (t : Bool) (l : i < n) (h : Scanned list i) (g : e ≡ entryAt s (headSize + recordSize * i)) (q : t ≡ crossed e) where
+    more : i < length list
+    more = let k = length-entries s headSize n in omega arith
+
+    tested : crossed (getD list i emptyEntry) ≡ t
+    tested = ap crossed (entries-at s headSize n i emptyEntry l ∙ sym g) ∙ sym q
+
+    pub record-crossed : t ≡ true → refusal (Crossed i) ≡ crossedOf list n
+    record-crossed r = scanned-crossed list i emptyEntry more h n (tested ∙ r)
+
+    pub record-passed : t ≡ false → Scanned list (i + 1)
+    record-passed r = scanned-next list i emptyEntry more h (tested ∙ r)
+
+  pub records-passed : n ≤ i → Scanned list i → accepted (n ∷ []) ≡ crossedOf list n
+  records-passed l h = scanned-all list n i (let k = length-entries s headSize n in omega arith) h
 
 -- the answer of the checks, by the first that refuses
 module _ (s : List ℕ) (limit : ℕ) where

@@ -1,5 +1,4 @@
 pub mod Within
-pub mod Places
 pub mod Answers
 pub mod Numbers
 pub mod Entries

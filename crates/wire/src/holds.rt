@@ -1,10 +1,9 @@
-// Whether a number is in a range of a record, or not past its end. The record is read no further than it must be.
+// Whether a number is in a range of a record. The record is read no further than it must be.
 use crate::number::read1;
 use crate::number::read2;
 use crate::number::read4;
 ghost use mathlib.Core.Path.{_≡_};
 ghost use Prim.Native.Nat.{_+_, _≤_};
-ghost use lib.Dec.{leb};
 ghost use lib.ListN.{length, getD};
 ghost use Rattle.policy.specs.Box.{range, within};
 ghost use Rattle.wire.specs.Format.{number2, number4};
@@ -38,26 +37,4 @@ pub fn within1(s: &[u8], low: usize, high: usize, x: u32) -> bool
         return false;
     }
     x <= read1(s, high)
-}
-
-// Whether the number at a place is at least x, as a number of 4, 2 and 1 bytes.
-pub fn is_up_to4(s: &[u8], at: usize, x: u32) -> bool
-    requires { ⌜ at + 4 ≤ length (now s) ⌝ }
-    ensures { λ t. ⌜ t ≡ leb x (number4 (now (s .entry)) at) ⌝ }
-{
-    x <= read4(s, at)
-}
-
-pub fn is_up_to2(s: &[u8], at: usize, x: u32) -> bool
-    requires { ⌜ at + 2 ≤ length (now s) ⌝ }
-    ensures { λ t. ⌜ t ≡ leb x (number2 (now (s .entry)) at) ⌝ }
-{
-    x <= read2(s, at) as u32
-}
-
-pub fn is_up_to1(s: &[u8], at: usize, x: u32) -> bool
-    requires { ⌜ at + 1 ≤ length (now s) ⌝ }
-    ensures { λ t. ⌜ t ≡ leb x (getD (now (s .entry)) at 0) ⌝ }
-{
-    x <= read1(s, at)
 }

@@ -1,12 +1,9 @@
 -- Each turn reads one record. The first crossed entry is, as long as none was met, the first among those from i on.
-use mathlib.Core.Path.{refl}
-use Prim.Native.Nat.{_-_, _≤_, _<_}
-use lib.ListN.{length}
 use borrow.Author.Needs.{needs}
+use mathlib.Core.Path.{refl}
+use Prim.Native.Nat.{_-_, _≤_}
 use Rattle.wire.specs.Format.{headSize, entriesFrom}
-use Rattle.wire.specs.Lists.{emptyEntry}
-use Rattle.wire.proofs.Entries.{length-entries}
-use Rattle.wire.proofs.Checks.{Scanned, scanned-crossed, scanned-next, scanned-all, entry-crossed}
+use Rattle.wire.proofs.Checks.{Scanned, record-crossed, record-passed, records-passed}
 use Rattle.wire.proofs.check.check_entries.Statement.{statement}
 use Rattle.wire.proofs.check.check_entries.Tie as tie
 
@@ -19,22 +16,20 @@ abbrev μ-loop : tie.MeasureT-loop
 loop-holds : tie.Need-loop-holds Inv-loop μ-loop
 loop-holds c = (search needs, refl)
 
-mul-record-is-proper : tie.Need-mul-record-is-proper Inv-loop μ-loop
-mul-record-is-proper c = search needs
+mul-read-entry : tie.Need-mul-read-entry Inv-loop μ-loop
+mul-read-entry c = search needs
 
-add-record-is-proper : tie.Need-add-record-is-proper Inv-loop μ-loop
-add-record-is-proper c = search needs
+add-read-entry : tie.Need-add-read-entry Inv-loop μ-loop
+add-read-entry c = search needs
 
-record-is-proper-requires : tie.Need-record-is-proper-requires Inv-loop μ-loop
-record-is-proper-requires c κs = search needs
+read-entry-requires : tie.Need-read-entry-requires Inv-loop μ-loop
+read-entry-requires c κs = search needs
+
+is-crossed-requires : tie.Need-is-crossed-requires Inv-loop μ-loop
+is-crossed-requires c κs = search needs
 
 returns : tie.Need-returns Inv-loop μ-loop
-returns c =
-    let a = c .before .before .before .before .before .args in
-    let l = c .before .before .before .loop in
-    let p = entriesFrom (a .file .now) headSize (a .n) in
-    let more : l .i < length p = rw length-entries (search needs) in
-    scanned-crossed p (l .i) emptyEntry more (l .inv .1) (a .n) (entry-crossed (a .file .now) (a .n) (l .i) _ _ (search needs) (c .before .record-is-proper .ensures) (c .if1 .taken))
+returns c = search record-crossed
 
 add-i : tie.Need-add-i Inv-loop μ-loop
 add-i c = search needs
@@ -43,18 +38,10 @@ loop-less : tie.Need-loop-less Inv-loop μ-loop
 loop-less c = search needs
 
 loop-again : tie.Need-loop-again Inv-loop μ-loop
-loop-again c =
-    let a = c .before .before .before .before .before .args in
-    let l = c .before .before .before .loop in
-    let p = entriesFrom (a .file .now) headSize (a .n) in
-    let more : l .i < length p = rw length-entries (search needs) in
-    (search needs, scanned-next p (l .i) emptyEntry more (l .inv .1) (entry-crossed (a .file .now) (a .n) (l .i) _ _ (search needs) (c .before .record-is-proper .ensures) (c .if1 .left)))
+loop-again c = (search needs, search record-passed)
 
 returns-2 : tie.Need-returns-2 Inv-loop μ-loop
-returns-2 c =
-    let a = c .before .before .before .args in
-    let l = c .before .loop in
-    scanned-all (entriesFrom (a .file .now) headSize (a .n)) (a .n) (l .i) (rw length-entries (search needs)) (l .inv .1)
+returns-2 c = search records-passed
 
 pub check-entries-spec : {M : Type 1} → statement M
 check-entries-spec =
@@ -63,9 +50,10 @@ check-entries-spec =
     Inv-loop
     μ-loop
     loop-holds
-    mul-record-is-proper
-    add-record-is-proper
-    record-is-proper-requires
+    mul-read-entry
+    add-read-entry
+    read-entry-requires
+    is-crossed-requires
     returns
     add-i
     loop-less
