@@ -6,10 +6,9 @@ use mathlib.Core.Bool.{true, false}
 use mathlib.Core.List.{List, [], _∷_}
 use Rattle.policy.specs.declared.header.Header.{Header}
 use Rattle.policy.specs.declared.header.Found.the-variants.{At, Nothing}
-use Rattle.policy.specs.declared.region.Range.{Range}
 use Rattle.policy.specs.declared.entry.Entry.{Entry}
 use Rattle.policy.specs.declared.entry.Caught.the-variants.{By}
-use Rattle.policy.specs.Box.{range}
+use Rattle.policy.specs.Box.{Range, range}
 use Rattle.policy.specs.Header.{header, everything, headers}
 use Rattle.policy.specs.Least.{least}
 use Rattle.policy.specs.Actions.{discard, bypass}

@@ -8,9 +8,8 @@ use mathlib.Core.Bool.{Bool, true, false, not, cond, _&&_, _||_, or-assoc, and-f
 use mathlib.Core.List.{List, [], _∷_, map}
 use lib.Dec.{ltb, leb, eqb}
 use borrow.Author.Tests.{ltb-true, ltb-false, leb-true, leb-false, lt-ltb, le-ltb, le-leb, eqb-true}
-use Rattle.policy.specs.declared.region.Range.{Range}
 use Rattle.policy.specs.Row.{Row, precedes}
-use Rattle.policy.specs.Box.{range, within, inside, proper, same, lows, common, meet}
+use Rattle.policy.specs.Box.{Range, range, within, inside, proper, same, lows, common, meet}
 use Rattle.policy.specs.Cut.{empty, below, above, cut}
 use Rattle.policy.proofs.Bool.{case, clash, is-false, and-intro, and-left, and-right, same-truth}
 use Rattle.policy.proofs.Order.{pre-cases}

@@ -4,11 +4,11 @@ use Prim.Native.Nat.{ℕ, zero, suc, _<_, _-_, min, max}
 use native.Mathlib.Omega.{arith}
 use mathlib.Core.Path.{_≡_, refl, sym, _∙_, ap}
 use mathlib.Core.Bool.{Bool, true, false, _&&_}
-use lib.Dec.{leb, eqb}
-use borrow.Author.Tests.{leb-true, leb-false, eq-eqb, ne-eqb}
-use Rattle.policy.specs.declared.region.Range.{Range}
-use Rattle.policy.specs.Box.{within, common, inside, proper, same, meet}
-use Rattle.policy.proofs.Branches.{paired}
+use lib.Dec.{leb, ltb, eqb}
+use borrow.Author.Tests.{leb-true, leb-false, eqb-true, eq-eqb, ne-eqb}
+use Rattle.policy.specs.Row.{precedes}
+use Rattle.policy.specs.Box.{Range, within, common, inside, proper, same, meet}
+use Rattle.policy.proofs.Branches.{differs, agrees, paired}
 use Rattle.policy.specs.Rows.{rowOf}
 
 -- every number below k passes
@@ -69,6 +69,29 @@ same-every (suc k) g h = ap ((eqb (g 0 .low) (h 0 .low) && eqb (g 0 .high) (h 0 
 pub meet-fields : (k : ℕ) (g h : ℕ → Range) → rowOf k (λ j. common (g j) (h j)) ≡ meet k (rowOf k g) (rowOf k h)
 meet-fields zero g h = refl
 meet-fields (suc k) g h = paired refl (meet-fields k (λ j. g (suc j)) (λ j. h (suc j)))
+
+-- the order of rows: the first field that differs decides
+pub first-decides : (k f : ℕ) (x y : ℕ → ℕ) → f < k → Passed (λ j. eqb (x j) (y j)) f → (x f ≡ y f → ⊥) → ltb (x f) (y f) ≡ precedes k (rowOf k x) (rowOf k y)
+first-decides zero f x y l p n = absurd (none f l)
+  where
+    none : (f : ℕ) → f < 0 → ⊥
+    none f l = omega arith
+first-decides (suc k) zero x y l p n = differs (x 0) (y 0) (precedes k (rowOf k (λ j. x (suc j))) (rowOf k (λ j. y (suc j)))) n
+first-decides (suc k) (suc f) x y l p n =
+    agrees (x 0) (y 0) (precedes k (rowOf k (λ j. x (suc j))) (rowOf k (λ j. y (suc j)))) (ltb (x (suc f)) (y (suc f))) (eqb-true (x 0) (y 0) (p 0 (omega arith)))
+    (first-decides k f (λ j. x (suc j)) (λ j. y (suc j)) (omega arith) (λ j m. p (suc j) (up j f m)) n)
+  where
+    up : (j f : ℕ) → j < f → suc j < suc f
+    up j f l = omega arith
+
+pub none-decides : (k : ℕ) (x y : ℕ → ℕ) → Passed (λ j. eqb (x j) (y j)) k → false ≡ precedes k (rowOf k x) (rowOf k y)
+none-decides zero x y p = refl
+none-decides (suc k) x y p =
+    agrees (x 0) (y 0) (precedes k (rowOf k (λ j. x (suc j))) (rowOf k (λ j. y (suc j)))) false (eqb-true (x 0) (y 0) (p 0 (omega arith)))
+    (none-decides k (λ j. x (suc j)) (λ j. y (suc j)) λ j m. p (suc j) (up j k m))
+  where
+    up : (j f : ℕ) → j < f → suc j < suc f
+    up j f l = omega arith
 
 -- a number is in a range if the greater of it and the low is the lesser of it and the high
 pub between : (l x h a b : ℕ) → a ≡ max l x → b ≡ min x h → eqb a b ≡ (leb l x && leb x h)

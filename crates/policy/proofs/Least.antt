@@ -11,9 +11,8 @@ use borrow.Author.Tests.{ltb-true, lt-ltb}
 use Rattle.policy.specs.declared.header.Header.{Header}
 use Rattle.policy.specs.declared.header.Found.{Found}
 use Rattle.policy.specs.declared.header.Found.the-variants.{At, Nothing}
-use Rattle.policy.specs.declared.region.Range.{Range}
 use Rattle.policy.specs.Row.{Row, precedes, fits}
-use Rattle.policy.specs.Box.{inside, highsFit}
+use Rattle.policy.specs.Box.{Range, inside, highsFit}
 use Rattle.policy.specs.Header.{arity, fields, header, before, Box, lies, sizes, allFit, Headers, inAny, among}
 use Rattle.policy.specs.Found.{here, lesser, minOver, minFrom}
 use Rattle.policy.specs.Least.{First, first, first-is, scan, least}

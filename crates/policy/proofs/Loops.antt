@@ -10,12 +10,12 @@ use lib.Dec.{leb, ltb, eqb}
 use lib.ListN.{length, getD, set, length-set}
 use lib.Seq.{getD-set-same, getD-set-other}
 use borrow.Author.Tests.{lt-leb, le-leb, ltb-true, ltb-false, eq-eqb, ne-eqb}
-use Rattle.policy.specs.declared.region.Range.{Range}
-use Rattle.policy.specs.Box.{common, proper, same, meet}
+use Rattle.policy.specs.Row.{precedes}
+use Rattle.policy.specs.Box.{Range, within, common, inside, proper, same, meet}
 use Rattle.policy.specs.Header.{arity}
-use Rattle.policy.specs.Rows.{rowOf, field, boxOf}
+use Rattle.policy.specs.Rows.{rowOf, field, boxOf, numbersIn}
 use Rattle.policy.proofs.Branches.{ends-are}
-use Rattle.policy.proofs.Every.{every, Passed, every-passed, one-fails, row-ext, proper-every, same-every, meet-fields}
+use Rattle.policy.proofs.Every.{every, Passed, every-passed, one-fails, row-ext, inside-every, proper-every, same-every, meet-fields, first-decides, none-decides}
 
 -- one field more has passed
 pub passed-more : (t : ℕ → Bool) (f : ℕ) → Passed t f → t f ≡ true → Passed t (f + 1)
@@ -59,6 +59,17 @@ pub same-is : (a b : List ℕ) → every arity (sameAt a b) ≡ same arity (boxO
 unfolding boxOf
 same-is a b = same-every arity (field a 0) (field b 0)
 
+-- a number lies in a box, and two numbers agree, in a field
+abbrev pub holdsAt : List ℕ → List ℕ → ℕ → Bool
+holdsAt b x j = within (field b 0 j) (getD x j 0)
+
+pub holds-is : (b x : List ℕ) → every arity (holdsAt b x) ≡ inside arity (boxOf b 0) (numbersIn x)
+unfolding boxOf
+holds-is b x = inside-every arity (field b 0) (λ j. getD x j 0)
+
+abbrev pub agreeAt : List ℕ → List ℕ → ℕ → Bool
+agreeAt x y j = eqb (getD x j 0) (getD y j 0)
+
 -- ---- the loops: a field stops one, a field lets it go on, and it ends where all have passed
 
 module _ (s : List ℕ) (at : ℕ) (b : List ℕ) (f : ℕ) where
@@ -74,6 +85,37 @@ module _ (s : List ℕ) (at : ℕ) (b : List ℕ) (f : ℕ) where
 
   pub part-proper : arity ≤ f → Passed (meetsAt s at b) f → true ≡ proper arity (meet arity (boxOf b 0) (boxOf s at))
   part-proper l c = all-passed (meetsAt s at b) arity f l c ∙ meets-is s at b
+
+module _ (b x : List ℕ) (f : ℕ) where
+  module _ (l : ℕ) (p : l ≡ field b 0 f .low) where
+    pub number-below : f < arity → getD x f 0 < l → false ≡ inside arity (boxOf b 0) (numbersIn x)
+    number-below m n = one-fails arity f (holdsAt b x) m (ap (_&& leb (getD x f 0) (field b 0 f .high)) (ap (λ (k : ℕ). leb k (getD x f 0)) (sym p) ∙ lt-leb l (getD x f 0) n)) ∙ holds-is b x
+
+    module _ (h : ℕ) (q : h ≡ field b 0 f .high) where
+      here : (t : Bool) → l ≤ getD x f 0 → leb (getD x f 0) h ≡ t → holdsAt b x f ≡ t
+      here t n e = ap₂ _&&_ (ap (λ (k : ℕ). leb k (getD x f 0)) (sym p) ∙ le-leb l (getD x f 0) n) (ap (leb (getD x f 0)) (sym q) ∙ e)
+
+      pub number-above : f < arity → l ≤ getD x f 0 → h < getD x f 0 → false ≡ inside arity (boxOf b 0) (numbersIn x)
+      number-above m n k = one-fails arity f (holdsAt b x) m (here false n (lt-leb (getD x f 0) h k)) ∙ holds-is b x
+
+      pub number-more : l ≤ getD x f 0 → getD x f 0 ≤ h → Passed (holdsAt b x) f → Passed (holdsAt b x) (f + 1)
+      number-more n k c = passed-more (holdsAt b x) f c (here true n (le-leb (getD x f 0) h k))
+
+  pub numbers-lie : arity ≤ f → Passed (holdsAt b x) f → true ≡ inside arity (boxOf b 0) (numbersIn x)
+  numbers-lie l c = all-passed (holdsAt b x) arity f l c ∙ holds-is b x
+
+module _ (x y : List ℕ) (f : ℕ) where
+  pub first-differs : f < arity → (getD x f 0 ≡ getD y f 0 → ⊥) → Passed (agreeAt x y) f → ltb (getD x f 0) (getD y f 0) ≡ precedes arity (numbersIn x) (numbersIn y)
+  first-differs m n c = first-decides arity f (λ j. getD x j 0) (λ j. getD y j 0) m c n
+
+  pub agree-more : getD x f 0 ≡ getD y f 0 → Passed (agreeAt x y) f → Passed (agreeAt x y) (f + 1)
+  agree-more e c = passed-more (agreeAt x y) f c (eq-eqb (getD x f 0) (getD y f 0) e)
+
+  pub none-differs : arity ≤ f → Passed (agreeAt x y) f → false ≡ precedes arity (numbersIn x) (numbersIn y)
+  none-differs l c = none-decides arity (λ j. getD x j 0) (λ j. getD y j 0) λ j m. c j (wide j f m l)
+    where
+      wide : (j f : ℕ) → j < arity → arity ≤ f → j < f
+      wide j f m l = omega arith
 
 module _ (b : List ℕ) (f : ℕ) where
   module _ (l h : ℕ) (p : l ≡ field b 0 f .low) (q : h ≡ field b 0 f .high) where

@@ -3,13 +3,18 @@
 use Prim.Native.Nat.{ℕ, zero, suc, _+_, _*_, _/_}
 use native.Mathlib.Omega.{arith}
 use mathlib.Core.Path.{_≡_, refl, sym, _∙_, ap, ap₂}
+use mathlib.Core.Bool.{Bool}
 use mathlib.Core.List.{List, [], _∷_, _++_, append-assoc}
 use lib.ListN.{length, getD, length-append}
 use lib.Seq.{getD-append-add}
 use Rattle.policy.specs.declared.entry.Entry.{Entry}
-use Rattle.policy.specs.Header.{arity}
-use Rattle.policy.specs.Entry.{entry, selector}
-use Rattle.policy.specs.Rows.{sides, rowSize, field, boxOf, rowAt, rowsFrom, rowsIn, numbersOf, allNumbers}
+use Rattle.policy.specs.declared.header.Header.{Header}
+use Rattle.policy.specs.Row.{precedes}
+use Rattle.policy.specs.Box.{inside}
+use Rattle.policy.specs.Header.{arity, before}
+use Rattle.policy.specs.Entry.{entry, selector, matches}
+use Rattle.policy.specs.Refusals.{numbers}
+use Rattle.policy.specs.Rows.{sides, rowSize, field, boxOf, numbersIn, rowAt, rowsFrom, rowsIn, numbersOf, allNumbers}
 use Rattle.policy.proofs.Branches.{ends-are}
 use Rattle.policy.proofs.Every.{row-ext}
 
@@ -67,3 +72,11 @@ numbers-in es = ap (rowsFrom (allNumbers es) 0) (whole (length (allNumbers es)) 
 pub numbers-append : (es ds : List Entry) → allNumbers (es ++ ds) ≡ allNumbers es ++ allNumbers ds
 numbers-append [] ds = refl
 numbers-append (e ∷ es) ds = ap (numbersOf e ++_) (numbers-append es ds) ∙ sym (append-assoc (numbersOf e) (allNumbers es) (allNumbers ds))
+
+-- an entry's sides hold a header's numbers if it matches the header
+pub sides-match : (e : Entry) (h : Header) (s x : List ℕ) (t : Bool) → boxOf s 0 ≡ selector e → x ≡ numbers h → t ≡ inside arity (boxOf s 0) (numbersIn x) → t ≡ matches e h
+sides-match e h s x t p q r = r ∙ ap₂ (inside arity) p (ap numbersIn q)
+
+-- headers in the order of their numbers
+pub numbers-before : (h g : Header) (x y : List ℕ) (t : Bool) → x ≡ numbers h → y ≡ numbers g → t ≡ precedes arity (numbersIn x) (numbersIn y) → t ≡ before h g
+numbers-before h g x y t p q r = r ∙ ap₂ (precedes arity) (ap numbersIn p) (ap numbersIn q)

@@ -2,8 +2,11 @@
 use Prim.Native.Nat.{ℕ, zero, suc, min, max}
 use mathlib.Core.Bool.{Bool, true, _&&_}
 use lib.Dec.{ltb, leb, eqb}
-use Rattle.policy.specs.declared.region.Range.{Range}
 use Rattle.policy.specs.Row.{Row}
+
+pub record Range : Type 0 where
+  pub low : ℕ
+  pub high : ℕ
 
 abbrev pub range : ℕ → ℕ → Range
 range l h = record { low = l; high = h }

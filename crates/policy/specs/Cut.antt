@@ -3,9 +3,8 @@ use Prim.Native.Nat.{ℕ, zero, suc, _+_, _-_, min, max}
 use mathlib.Core.Bool.{cond}
 use mathlib.Core.List.{List, [], _∷_, map}
 use lib.Dec.{ltb}
-use Rattle.policy.specs.declared.region.Range.{Range}
 use Rattle.policy.specs.Row.{Row}
-use Rattle.policy.specs.Box.{range, common}
+use Rattle.policy.specs.Box.{Range, range, common}
 
 -- a range that holds nothing
 abbrev pub empty : Range

@@ -4,10 +4,8 @@ use mathlib.Core.Path.{_≡_, refl}
 use mathlib.Core.Bool.{Bool, true, false, _&&_, _||_}
 use mathlib.Core.List.{List, [], _∷_}
 use Rattle.policy.specs.declared.header.Header.{Header}
-use Rattle.policy.specs.declared.region.Range.{Range}
-use Rattle.policy.specs.declared.region.Region.{Region}
 use Rattle.policy.specs.Row.{Row, precedes}
-use Rattle.policy.specs.Box.{range, inside, highsFit}
+use Rattle.policy.specs.Box.{Range, range, inside, highsFit}
 
 -- how many numbers a header has
 abbrev pub arity : ℕ
@@ -31,12 +29,6 @@ before h g = precedes arity (fields h) (fields g)
 -- a box has a range for each number of a header
 abbrev pub Box : Type 0
 Box = Row Range arity
-
-abbrev pub ranges : Region → Box
-ranges b = (b .local, (b .remote, (b .«local_port», (b .«remote_port», (b .protocol, tt)))))
-
-abbrev pub region : Box → Region
-region b = record { local = b .0; remote = b .1 .0; «local_port» = b .1 .1 .0; «remote_port» = b .1 .1 .1 .0; protocol = b .1 .1 .1 .1 .0 }
 
 -- the header lies in the box
 abbrev pub lies : Box → Header → Bool

@@ -2,10 +2,9 @@
 use Prim.Native.Nat.{ℕ, zero, suc, _+_, _*_, _/_}
 use mathlib.Core.List.{List, [], _∷_, _++_}
 use lib.ListN.{getD, length}
-use Rattle.policy.specs.declared.region.Range.{Range}
 use Rattle.policy.specs.declared.entry.Entry.{Entry}
 use Rattle.policy.specs.Row.{Row}
-use Rattle.policy.specs.Box.{range}
+use Rattle.policy.specs.Box.{Range, range}
 use Rattle.policy.specs.Header.{arity, Box}
 use Rattle.policy.specs.Entry.{entry}
 
@@ -30,6 +29,10 @@ field s at j = range (getD s (2 * j + at) 0) (getD s (2 * j + 1 + at) 0)
 -- the box of the row at a place
 unfoldable pub boxOf : List ℕ → ℕ → Box
 boxOf s at = rowOf arity (field s at)
+
+-- the numbers of a header, one for each field
+abbrev pub numbersIn : List ℕ → Row ℕ arity
+numbersIn x = rowOf arity λ j. getD x j 0
 
 -- the row at a place, as an entry
 abbrev pub rowAt : List ℕ → ℕ → Entry

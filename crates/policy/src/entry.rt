@@ -1,14 +1,12 @@
 // Entries: the eleven numbers of a record, at the format's widths.
 use crate::header::Header;
-use crate::region::Range;
-use crate::region::Region;
-use crate::region::holds;
-use crate::region::is_proper;
+use crate::header::numbers_of;
 use crate::sides::ROW;
 use crate::sides::SIDES;
+use crate::sides::holds;
+use crate::sides::is_proper;
 use crate::sides::row_sides;
 ghost use mathlib.Core.Path.{_≡_};
-ghost use Rattle.policy.specs.Header.{ranges};
 ghost use Rattle.policy.specs.Entry.{selector, matches, crossed};
 ghost use Rattle.policy.specs.Rows.{boxOf, numbersOf};
 
@@ -32,34 +30,6 @@ pub struct Entry {
 pub enum Caught {
     By(usize),
     Uncaught,
-}
-
-// The selector of e.
-pub fn selector_of(e: Entry) -> Region
-    ensures { λ r. ⌜ ranges r ≡ selector e ⌝ }
-{
-    Region {
-        local: Range {
-            low: e.local_low,
-            high: e.local_high,
-        },
-        remote: Range {
-            low: e.remote_low,
-            high: e.remote_high,
-        },
-        local_port: Range {
-            low: e.local_port_low as u32,
-            high: e.local_port_high as u32,
-        },
-        remote_port: Range {
-            low: e.remote_port_low as u32,
-            high: e.remote_port_high as u32,
-        },
-        protocol: Range {
-            low: e.protocol_low as u32,
-            high: e.protocol_high as u32,
-        },
-    }
 }
 
 // The row of e.
@@ -93,12 +63,15 @@ pub fn sides_of(e: Entry) -> [u32; SIDES]
 pub fn matches_header(e: Entry, h: Header) -> bool
     ensures { λ r. ⌜ r ≡ matches e h ⌝ }
 {
-    holds(selector_of(e), h)
+    let sides = sides_of(e);
+    let numbers = numbers_of(h);
+    holds(&sides, &numbers)
 }
 
 // Whether a range of e has its low above its high.
 pub fn is_crossed(e: Entry) -> bool
     ensures { λ r. ⌜ r ≡ crossed e ⌝ }
 {
-    !is_proper(selector_of(e))
+    let sides = sides_of(e);
+    !is_proper(&sides)
 }

@@ -1,8 +1,10 @@
 // Headers, their order, and the box of them all.
+use crate::sides::FIELDS;
 use crate::sides::SIDES;
+use crate::sides::precede;
 ghost use mathlib.Core.Path.{_≡_};
 ghost use Rattle.policy.specs.Header.{before, everything};
-ghost use Rattle.policy.specs.Found.{lesser};
+ghost use Rattle.policy.specs.Refusals.{numbers};
 ghost use Rattle.policy.specs.Rows.{boxOf};
 
 // Five numbers; every combination is a header.
@@ -20,42 +22,26 @@ pub enum Found {
     Nothing,
 }
 
+// The numbers of h, in the sequence that decides the order.
+pub fn numbers_of(h: Header) -> [u32; FIELDS]
+    ensures { λ r. ⌜ r ≡ numbers h ⌝ }
+{
+    [
+        h.local,
+        h.remote,
+        h.local_port as u32,
+        h.remote_port as u32,
+        h.protocol as u32,
+    ]
+}
+
 // Whether h comes before g.
 pub fn is_before(h: Header, g: Header) -> bool
     ensures { λ r. ⌜ r ≡ before h g ⌝ }
 {
-    if h.local != g.local {
-        return h.local < g.local;
-    }
-    if h.remote != g.remote {
-        return h.remote < g.remote;
-    }
-    if h.local_port != g.local_port {
-        return h.local_port < g.local_port;
-    }
-    if h.remote_port != g.remote_port {
-        return h.remote_port < g.remote_port;
-    }
-    h.protocol < g.protocol
-}
-
-// The lesser of two findings.
-pub fn lesser_of(a: Found, b: Found) -> Found
-    ensures { λ r. ⌜ r ≡ lesser a b ⌝ }
-{
-    match a {
-        Found::Nothing => b,
-        Found::At(h) => match b {
-            Found::Nothing => Found::At(h),
-            Found::At(g) => {
-                if is_before(g, h) {
-                    Found::At(g)
-                } else {
-                    Found::At(h)
-                }
-            }
-        },
-    }
+    let x = numbers_of(h);
+    let y = numbers_of(g);
+    precede(&x, &y)
 }
 
 // 01's ALL: the box of every header.

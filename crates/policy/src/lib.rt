@@ -1,7 +1,6 @@
-// Headers, regions, rows, entries, action sets and refusals: the words that every other crate speaks in.
+// Headers, rows, entries, action sets and refusals: the words that every other crate speaks in.
 pub mod actions;
 pub mod entry;
 pub mod header;
 pub mod refusal;
-pub mod region;
 pub mod sides;

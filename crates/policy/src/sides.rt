@@ -4,9 +4,10 @@ ghost use mathlib.Core.Bool.{_&&_};
 ghost use Prim.Native.Nat.{_+_, _≤_, _<_, min, max};
 ghost use lib.ListN.{length};
 ghost use lib.Dec.{leb};
-ghost use Rattle.policy.specs.Box.{proper, same, meet};
+ghost use Rattle.policy.specs.Row.{precedes};
+ghost use Rattle.policy.specs.Box.{inside, proper, same, meet};
 ghost use Rattle.policy.specs.Header.{arity};
-ghost use Rattle.policy.specs.Rows.{sides, rowSize, field, boxOf, rowAt};
+ghost use Rattle.policy.specs.Rows.{sides, rowSize, field, boxOf, rowAt, numbersIn};
 
 // How many fields a header has; the sides of a box, a low and a high for each; and the numbers of a row, which has an action set too.
 pub const FIELDS: usize = 5;
@@ -79,6 +80,37 @@ pub fn is_proper(b: &[u32; SIDES]) -> bool
     let mut f: usize = 0;
     while f < FIELDS {
         if high(b, f) < low(b, f) {
+            return false;
+        }
+        f += 1;
+    }
+    true
+}
+
+// Whether the numbers x come before y: the first that differs decides.
+pub fn precede(x: &[u32; FIELDS], y: &[u32; FIELDS]) -> bool
+    ensures { λ t. ⌜ t ≡ precedes arity (numbersIn (now (x .entry))) (numbersIn (now (y .entry))) ⌝ }
+{
+    let mut f: usize = 0;
+    while f < FIELDS {
+        if x[f] != y[f] {
+            return x[f] < y[f];
+        }
+        f += 1;
+    }
+    false
+}
+
+// Whether the numbers x lie in b. They are looked at as far as the first that does not.
+pub fn holds(b: &[u32; SIDES], x: &[u32; FIELDS]) -> bool
+    ensures { λ t. ⌜ t ≡ inside arity (boxOf (now (b .entry)) 0) (numbersIn (now (x .entry))) ⌝ }
+{
+    let mut f: usize = 0;
+    while f < FIELDS {
+        if x[f] < low(b, f) {
+            return false;
+        }
+        if high(b, f) < x[f] {
             return false;
         }
         f += 1;

@@ -10,9 +10,8 @@ use lib.Dec.{leb}
 use lib.ListN.{length, length-append}
 use borrow.Author.Tests.{leb-true}
 use Rattle.policy.specs.declared.entry.Entry.{Entry}
-use Rattle.policy.specs.declared.region.Range.{Range}
 use Rattle.policy.specs.Row.{Row}
-use Rattle.policy.specs.Box.{within, inside, lows}
+use Rattle.policy.specs.Box.{Range, within, inside, lows}
 use Rattle.policy.specs.Header.{arity, fields, header, Box, lies}
 use Rattle.policy.specs.Policy.{missed}
 use Rattle.policy.proofs.Branches.{paired}

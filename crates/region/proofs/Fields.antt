@@ -11,9 +11,8 @@ use lib.Dec.{ltb, leb}
 use lib.ListN.{length, getD, set}
 use lib.Seq.{getD-set-same, getD-set-other}
 use borrow.Author.Tests.{ltb-true, ltb-false, lt-ltb, le-leb}
-use Rattle.policy.specs.declared.region.Range.{Range}
 use Rattle.policy.specs.Row.{Row, fits}
-use Rattle.policy.specs.Box.{range, within, inside, lows}
+use Rattle.policy.specs.Box.{Range, range, within, inside, lows}
 use Rattle.policy.specs.Cut.{empty, above}
 use Rattle.policy.specs.Header.{arity, Box, everything, headers}
 use Rattle.policy.proofs.Bool.{and-left, and-right}

@@ -6,8 +6,7 @@ use mathlib.Core.Bool.{Bool, true, false, not, _&&_}
 use mathlib.Core.List.{List}
 use lib.Dec.{leb}
 use borrow.Author.Tests.{lt-leb, le-leb}
-use Rattle.policy.specs.declared.region.Range.{Range}
-use Rattle.policy.specs.Box.{within, inside, lows}
+use Rattle.policy.specs.Box.{Range, within, inside, lows}
 use Rattle.policy.specs.Header.{arity}
 use Rattle.policy.specs.Rows.{rowOf, field, boxOf}
 use Rattle.policy.proofs.Bool.{not-true, not-false}

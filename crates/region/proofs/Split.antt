@@ -7,9 +7,8 @@ use mathlib.Core.Bool.{Bool, true, false, not, cond, _&&_, _||_, and-assoc}
 use lib.Dec.{ltb, leb}
 use borrow.Author.Tests.{ltb-true, ltb-false, leb-true, lt-ltb, le-ltb, le-leb}
 use Rattle.policy.specs.declared.header.Header.{Header}
-use Rattle.policy.specs.declared.region.Range.{Range}
 use Rattle.policy.specs.Row.{Row}
-use Rattle.policy.specs.Box.{range, within, inside, proper, lows}
+use Rattle.policy.specs.Box.{Range, range, within, inside, proper, lows}
 use Rattle.policy.specs.Cut.{empty, above}
 use Rattle.policy.specs.Header.{arity, fields, Box, lies, Headers}
 use Rattle.policy.specs.Found.{lesser}

@@ -10,9 +10,8 @@ use Rattle.policy.specs.declared.header.Header.{Header}
 use Rattle.policy.specs.declared.header.Found.{Found}
 use Rattle.policy.specs.declared.header.Found.the-variants.{At, Nothing}
 use Rattle.policy.specs.declared.entry.Entry.{Entry}
-use Rattle.policy.specs.declared.region.Range.{Range}
 use Rattle.policy.specs.Row.{Row}
-use Rattle.policy.specs.Box.{inside, proper, lows, meet}
+use Rattle.policy.specs.Box.{Range, inside, proper, lows, meet}
 use Rattle.policy.specs.Header.{arity, header, before, Box, lies, Headers, among, headers}
 use Rattle.policy.specs.Found.{lesser}
 use Rattle.policy.specs.Least.{leastIn}

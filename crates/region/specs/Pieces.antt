@@ -5,9 +5,8 @@ use mathlib.Core.Logic.{_⊎_}
 use mathlib.Core.Bool.{true}
 use mathlib.Core.List.{List}
 use lib.ListN.{length}
-use Rattle.policy.specs.declared.region.Range.{Range}
 use Rattle.policy.specs.Row.{Row}
-use Rattle.policy.specs.Box.{range}
+use Rattle.policy.specs.Box.{Range, range}
 use Rattle.policy.specs.Header.{arity, Box}
 use Rattle.policy.specs.Rows.{sides, boxOf}
 use Rattle.region.specs.declared.cut.Candidate.{Candidate}

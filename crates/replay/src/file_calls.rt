@@ -14,13 +14,12 @@ use crate::input::bytes;
 use crate::input::bytes_end;
 use crate::input::number1;
 use crate::input::number2;
-use crate::input::number4;
 use crate::print::print_bytes;
 use crate::print::print_end;
 use crate::value::BOX_SIZE;
+use crate::value::box_sides;
 use crate::value::list;
 use crate::value::list_end;
-use crate::value::region;
 use compare::files::compare_files;
 use gateway::exports::policy_compare;
 use region::search::Want;
@@ -135,7 +134,8 @@ pub(crate) fn search(s: &[u8], at: usize) -> usize {
     if 2 < number1(s, wanted, 0) {
         return NOWHERE;
     }
-    searched(search_file(bytes(s, at), region(s, within), want(s, wanted)));
+    let b = box_sides(s, within);
+    searched(search_file(bytes(s, at), &b, want(s, wanted)));
     print_end();
     end
 }

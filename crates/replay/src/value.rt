@@ -5,9 +5,9 @@ use crate::input::number1;
 use crate::input::number2;
 use crate::input::number4;
 use policy::entry::Entry;
-use policy::entry::selector_of;
+use policy::entry::sides_of;
 use policy::header::Header;
-use policy::region::Region;
+use policy::sides::SIDES;
 use std::num::wrapping_add_usize;
 use wire::format::LIST_LIMIT;
 use wire::format::RECORD_SIZE;
@@ -49,8 +49,8 @@ fn entry(s: &[u8], at: usize) -> Entry {
 }
 
 // A box is laid out as the start of a record.
-pub(crate) fn region(s: &[u8], at: usize) -> Region {
-    selector_of(entry(s, at))
+pub(crate) fn box_sides(s: &[u8], at: usize) -> [u32; SIDES] {
+    sides_of(entry(s, at))
 }
 
 // Record i of those behind a count.

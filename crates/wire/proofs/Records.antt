@@ -11,9 +11,8 @@ use lib.Seq.{take-add, drop-drop, drop-cons, getD-drop}
 use Rattle.policy.specs.declared.entry.Entry.{Entry}
 use lib.Dec.{ltb}
 use borrow.Author.Tests.{ltb-true, lt-ltb}
-use Rattle.policy.specs.declared.region.Range.{Range}
 use Rattle.policy.specs.Row.{Row, fits}
-use Rattle.policy.specs.Box.{lows, highsFit}
+use Rattle.policy.specs.Box.{Range, lows, highsFit}
 use Rattle.policy.specs.Header.{arity, sizes}
 use Rattle.policy.specs.Entry.{selector}
 use Rattle.policy.proofs.Bool.{and-left, and-right}

@@ -1,19 +1,21 @@
--- An entry matches what lies in its selector.
--- Assumes nothing.
-use mathlib.Core.Path.{_∙_, ap}
-use Rattle.policy.specs.Header.{Box, lies}
+-- The header's numbers lie in the entry's sides.
+use Rattle.policy.proofs.Numbers.{sides-match}
 use borrow.Author.Needs.{needs}
 use Rattle.policy.proofs.entry.matches_header.Statement.{statement}
 use Rattle.policy.proofs.entry.matches_header.Tie as tie
 
-selector-of-requires : tie.Need-selector-of-requires
-selector-of-requires c κs = search needs
+sides-of-requires : tie.Need-sides-of-requires
+sides-of-requires c κs = search needs
+
+numbers-of-requires : tie.Need-numbers-of-requires
+numbers-of-requires c κs = search needs
 
 holds-requires : tie.Need-holds-requires
 holds-requires c κs = search needs
 
 returns : tie.Need-returns
-returns c = c .holds .ensures ∙ ap (λ (b : Box). lies b (c .before .before .args .h)) (c .before .selector-of .ensures)
+returns c = search sides-match
 
 pub matches-header-spec : {M : Type 1} → statement M
-matches-header-spec = tie.close (tie.spec selector-of-requires holds-requires returns)
+matches-header-spec =
+    tie.close (tie.spec sides-of-requires numbers-of-requires holds-requires returns)

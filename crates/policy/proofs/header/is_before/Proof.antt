@@ -1,23 +1,21 @@
--- The first number that differs decides: each test takes one number off the row.
--- Assumes nothing.
-use Rattle.policy.proofs.Branches.{differs, agrees, last-differs}
+-- The headers' numbers, in their order.
+use Rattle.policy.proofs.Numbers.{numbers-before}
+use borrow.Author.Needs.{needs}
 use Rattle.policy.proofs.header.is_before.Statement.{statement}
 use Rattle.policy.proofs.header.is_before.Tie as tie
 
+numbers-of-requires : tie.Need-numbers-of-requires
+numbers-of-requires c κs = search needs
+
+numbers-of-requires-2 : tie.Need-numbers-of-requires-2
+numbers-of-requires-2 c κs = search needs
+
+precede-requires : tie.Need-precede-requires
+precede-requires c κs = search needs
+
 returns : tie.Need-returns
-returns c = search (differs, agrees, last-differs) depth 12
-
-returns-2 : tie.Need-returns-2
-returns-2 c = search (differs, agrees, last-differs) depth 12
-
-returns-3 : tie.Need-returns-3
-returns-3 c = search (differs, agrees, last-differs) depth 12
-
-returns-4 : tie.Need-returns-4
-returns-4 c = search (differs, agrees, last-differs) depth 12
-
-returns-5 : tie.Need-returns-5
-returns-5 c = search (differs, agrees, last-differs) depth 12
+returns c = search numbers-before
 
 pub is-before-spec : {M : Type 1} → statement M
-is-before-spec = tie.close (tie.spec returns returns-2 returns-3 returns-4 returns-5)
+is-before-spec =
+    tie.close (tie.spec numbers-of-requires numbers-of-requires-2 precede-requires returns)
