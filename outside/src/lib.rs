@@ -4,6 +4,7 @@ pub mod baseline;
 pub mod calls;
 pub mod cells;
 pub mod daemon_cases;
+pub mod deep;
 pub mod entry;
 #[cfg(feature = "gateway")]
 pub mod gateway;
@@ -19,3 +20,4 @@ pub mod random;
 pub mod replay;
 pub mod report;
 pub mod search;
+pub mod stack;
