@@ -7,7 +7,7 @@ ARCHIVE = target/staticlib/libgateway.a
 EXAMPLE = examples/clinic-maker-technician-firm.hex
 CARGO = cargo build --release --offline --locked --quiet --manifest-path outside/Cargo.toml
 
-.PHONY: run lookups test install bench clean archive
+.PHONY: run lookups test install bench measure-against clean archive
 
 # The program merges the shipped example; until the program is there, packets are looked up in one list of the example.
 ifneq ($(wildcard crates/merger/src),)
@@ -57,6 +57,12 @@ bench:
 	rm -rf outside/target
 	$(CARGO) --features gateway,measured --bin bench
 	outside/target/release/bench docs/BENCHMARKS.md target/checking.md
+
+# The product's times beside those of other archives, in one run: OLD is a copy of an earlier target/staticlib with both archives.
+measure-against:
+	rt staticlib gateway
+	rt staticlib measured
+	outside/compare_archives $(OLD) target/staticlib
 
 clean:
 	rm -rf target outside/target

@@ -28,6 +28,20 @@ fn now() -> f64 {
 const BATCHES: usize = 40;
 const LONG_BATCHES: usize = 5;
 
+/// Seconds of one call of a job, the mean over a batch of them.
+pub fn batch(job: &mut dyn FnMut() -> u64, calls: usize) -> f64 {
+    let start = now();
+    for _ in 0..calls {
+        black_box(job());
+    }
+    (now() - start) / calls as f64
+}
+
+/// How many calls take about a millisecond, if one takes so many seconds.
+pub fn calls_for(once: f64) -> usize {
+    ((1e-3 / once.max(1e-8)) as usize).clamp(1, 100_000)
+}
+
 /// Seconds that one call of each job takes: the least of several batches, the jobs in turn, so that
 /// what disturbs the machine disturbs all of them. Long jobs have fewer batches, the first ones, so
 /// that they do not empty the caches before every batch of the others.
@@ -36,24 +50,17 @@ pub fn seconds(jobs: &mut [&mut dyn FnMut() -> u64]) -> Vec<f64> {
     let mut calls = vec![1; jobs.len()];
     let mut batches = vec![BATCHES; jobs.len()];
     for (k, job) in jobs.iter_mut().enumerate() {
-        let start = now();
-        black_box(job());
-        let once = (now() - start).max(1e-8);
-        calls[k] = ((1e-3 / once) as usize).clamp(1, 100_000);
+        let once = batch(job, 1);
+        calls[k] = calls_for(once);
         if once > 0.05 {
             batches[k] = LONG_BATCHES;
         }
     }
-    for batch in 0..BATCHES {
+    for turn in 0..BATCHES {
         for (k, job) in jobs.iter_mut().enumerate() {
-            if batch >= batches[k] {
-                continue;
+            if turn < batches[k] {
+                least[k] = least[k].min(batch(job, calls[k]));
             }
-            let start = now();
-            for _ in 0..calls[k] {
-                black_box(job());
-            }
-            least[k] = least[k].min((now() - start) / calls[k] as f64);
         }
     }
     least

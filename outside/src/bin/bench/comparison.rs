@@ -11,6 +11,7 @@ use outside::search::{decode, gap, unrefined, Packed};
 
 use crate::findings::{Page, Target};
 use crate::growth::Growth;
+use crate::rows::{kept, Row};
 use crate::search::{good_records, hardest, name_of};
 use crate::times::{head, Job, Times, STATES};
 
@@ -64,6 +65,21 @@ fn dead_list(random: &mut Random) -> List {
     list
 }
 
+/// The product's comparison; its answer is the expected one.
+fn product_compare<'a>(
+    product: &Product,
+    a: &'a [u8],
+    b: &'a [u8],
+) -> Option<impl FnMut() -> u64 + 'a> {
+    let (mut lent, mut header) = ([0u8; 13], [0u8; 13]);
+    let answer = baseline::compare(a, b, &mut header);
+    product.compare.map(|compare| {
+        assert_eq!(compare(a, b, &mut lent), answer);
+        assert_eq!(lent, header);
+        move || compare(a, b, &mut lent) as u64
+    })
+}
+
 pub fn comparisons(page: &mut Page, product: &Product) {
     page.say("## Comparison of two files\n");
     page.say(
@@ -73,18 +89,12 @@ pub fn comparisons(page: &mut Page, product: &Product) {
     let mut table = Table::new(&head(&["files", "answer", "boxes"]));
     for (name, first, second) in pairs(&mut Random::new(200)) {
         let (a, b) = (&file(&first)[..], &file(&second)[..]);
-        let mut header = [0u8; 13];
-        let answer = baseline::compare(a, b, &mut header);
+        let answer = baseline::compare(a, b, &mut [0; 13]);
         let mut boxes = 0;
         gap(&Packed { lists: [&a[5..], &[]] }, &mut boxes);
         gap(&Packed { lists: [&b[5..], &[]] }, &mut boxes);
         unrefined(&Packed { lists: [&a[5..], &b[5..]] }, &mut boxes);
-        let mut lent = [0u8; 13];
-        let mut ours = product.compare.map(|compare| {
-            assert_eq!(compare(a, b, &mut lent), answer);
-            assert_eq!(lent, header);
-            move || compare(a, b, &mut lent) as u64
-        });
+        let mut ours = product_compare(product, a, b);
         let times = Times::of(
             ours.as_mut().map(|job| job as Job),
             &mut || baseline::compare(a, b, &mut [0; 13]) as u64,
@@ -103,6 +113,15 @@ pub fn comparisons(page: &mut Page, product: &Product) {
         table.row(row);
     }
     page.say(&table.text());
+}
+
+/// The rows above, of the product alone.
+pub fn rows(product: &Product) -> Vec<Row> {
+    let row = |(name, first, second): (String, List, List)| {
+        let job = product_compare(product, kept(file(&first)), kept(file(&second)));
+        job.map(|job| Row::new(JOB, name, 1, job))
+    };
+    pairs(&mut Random::new(200)).into_iter().filter_map(row).collect()
 }
 
 pub fn growth(growth: &mut Growth, product: &Product) {

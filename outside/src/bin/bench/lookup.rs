@@ -1,6 +1,6 @@
 //! Lookup: the entry's number and the record's part in a file, and in a table of decoded entries.
 
-use outside::baseline::{lookup, lookup_unpacked, unpack};
+use outside::baseline::{lookup, lookup_unpacked, unpack, Unpacked};
 use outside::entry::{file, Header, List};
 use outside::generate::{header_near, realistic_list, Sets};
 use outside::model::catching;
@@ -10,6 +10,7 @@ use outside::random::Random;
 
 use crate::findings::{Page, Target};
 use crate::growth::Growth;
+use crate::rows::{kept, Row};
 use crate::times::{each, Job, BYTES};
 
 static RATIO: Target = Target { words: "lookup: at most 1.2 times Rust over the bytes", most: 1.2 };
@@ -56,28 +57,51 @@ struct Lookups {
     structs: f64,
 }
 
+fn sum(headers: &[Header], lookup: &dyn Fn(&Header) -> u32) -> u64 {
+    headers.iter().map(|h| lookup(h) as u64).sum()
+}
+
+/// A list's two forms, and headers to be looked up in it.
+#[derive(Clone, Copy)]
+struct Inputs<'a> {
+    bytes: &'a [u8],
+    entries: &'a [Unpacked],
+    headers: &'a [Header],
+}
+
+type Lookup<'a> = Box<dyn FnMut() -> u64 + 'a>;
+
+/// The product's lookups of all headers: the number, the part and in the table. Their answers are the
+/// expected ones.
+fn product_lookups<'a>(product: &Product, inputs: Inputs<'a>) -> [Option<Lookup<'a>>; 3] {
+    let Inputs { bytes, entries, headers } = inputs;
+    let same = |ours: &dyn Fn(&Header) -> u32| {
+        headers.iter().for_each(|h| assert_eq!(ours(h), lookup(bytes, h)));
+    };
+    let number = product.lookup.map(|number| -> Lookup {
+        same(&|h| number(bytes, h));
+        Box::new(move || sum(headers, &|h| number(bytes, h)))
+    });
+    let part = product.part.map(|part| -> Lookup {
+        assert!(headers.iter().all(|h| part(bytes, h) == 28));
+        Box::new(move || sum(headers, &|h| part(bytes, h)))
+    });
+    let table = product.table.map(|table| -> Lookup {
+        same(&|h| table(entries, h));
+        Box::new(move || sum(headers, &|h| table(entries, h)))
+    });
+    [number, part, table]
+}
+
 fn lookup_times(product: &Product, list: &List, headers: &[Header]) -> Lookups {
     let (bytes, entries) = (&file(list)[..], &unpack(list)[..]);
-    let answers: Vec<u32> = headers.iter().map(|h| lookup(bytes, h)).collect();
-    let sum = &|lookup: &dyn Fn(&Header) -> u32| headers.iter().map(|h| lookup(h) as u64).sum();
-    let same = &|lookup: &dyn Fn(&Header) -> u32| {
-        headers.iter().zip(&answers).for_each(|(h, answer)| assert_eq!(lookup(h), *answer))
-    };
-    let mut number = product.lookup.map(|number| {
-        same(&|h| number(bytes, h));
-        move || sum(&|h| number(bytes, h))
-    });
-    let mut part = product.part.map(|part| {
-        assert!(headers.iter().all(|h| part(bytes, h) == 28));
-        move || sum(&|h| part(bytes, h))
-    });
-    let mut table = product.table.map(|table| {
-        same(&|h| table(entries, h));
-        move || sum(&|h| table(entries, h))
-    });
-    same(&|h| lookup_unpacked(entries, h));
-    let mut rust = || sum(&|h| lookup(bytes, h));
-    let mut structs = || sum(&|h| lookup_unpacked(entries, h));
+    let [mut number, mut part, mut table] =
+        product_lookups(product, Inputs { bytes, entries, headers });
+    for h in headers {
+        assert_eq!(lookup_unpacked(entries, h), lookup(bytes, h));
+    }
+    let mut rust = || sum(headers, &|h| lookup(bytes, h));
+    let mut structs = || sum(headers, &|h| lookup_unpacked(entries, h));
     let times = each(vec![
         number.as_mut().map(|job| job as Job),
         part.as_mut().map(|job| job as Job),
@@ -154,6 +178,19 @@ fn one_kind(page: &mut Page, kind: &Beside, rows: &[(String, String, Lookups)]) 
     page.say(&table.text());
 }
 
+/// Lists and headers to be looked up in them, with names.
+fn lists() -> Vec<(String, List, Vec<Header>)> {
+    let mut rows = vec![];
+    for n in SIZES {
+        for (last, word) in [(false, "mixed"), (true, "caught last")] {
+            let (list, mut random) = list_of(n);
+            let headers = headers_for(&list, last, &mut random);
+            rows.push((format!("{n} entries, {word}"), list, headers));
+        }
+    }
+    rows
+}
+
 pub fn lookups(page: &mut Page, product: &Product) {
     page.say("## Lookup\n");
     page.say(
@@ -167,18 +204,27 @@ pub fn lookups(page: &mut Page, product: &Product) {
          machine code took three times as long in one program as in another.\n",
     );
     let mut rows = vec![];
-    for n in SIZES {
-        for (last, word) in [(false, "mixed"), (true, "caught last")] {
-            let (list, mut random) = list_of(n);
-            let headers = headers_for(&list, last, &mut random);
-            let entry = format!("{:.0}", depth(&list, &headers));
-            let times = lookup_times(product, &list, &headers);
-            rows.push((format!("{n} entries, {word}"), entry, times));
-        }
+    for (name, list, headers) in lists() {
+        let entry = format!("{:.0}", depth(&list, &headers));
+        rows.push((name, entry, lookup_times(product, &list, &headers)));
     }
     for kind in &KINDS {
         one_kind(page, kind, &rows);
     }
+}
+
+/// The rows above, of the product alone.
+pub fn rows(product: &Product) -> Vec<Row> {
+    let mut rows = vec![];
+    for (name, list, headers) in lists() {
+        let (bytes, entries) = (kept(file(&list)), kept(unpack(&list)));
+        let inputs = Inputs { bytes, entries, headers: kept(headers) };
+        for (kind, job) in KINDS.iter().zip(product_lookups(product, inputs)) {
+            let each = inputs.headers.len();
+            rows.extend(job.map(|job| Row::new(kind.job, name.clone(), each, job)));
+        }
+    }
+    rows
 }
 
 pub fn growth(growth: &mut Growth, product: &Product) {

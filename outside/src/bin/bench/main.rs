@@ -1,12 +1,14 @@
 //! Measures search, comparison, lookup and merging, and writes a Markdown page:
 //! bench [PATH [CHECKING]]. The product's columns are filled as far as its archives are linked (see
 //! product.rs). CHECKING is a file with what is to be said of the proofs, put at the page's end.
+//! `bench rows` times the product's rows as they are asked for (see rows.rs).
 
 mod comparison;
 mod findings;
 mod growth;
 mod lookup;
 mod merging;
+mod rows;
 mod search;
 mod times;
 
@@ -49,6 +51,11 @@ fn introduction() -> String {
 
 fn main() {
     let product = product();
+    let mut words = std::env::args().skip(1);
+    let (path, checking) = (words.next(), words.next());
+    if path.as_deref() == Some("rows") {
+        return rows::answer(&product);
+    }
     let mut page = Page::default();
     search::searches(&mut page, &product);
     search::realistic(&mut page, &product);
@@ -62,8 +69,6 @@ fn main() {
     lookup::growth(&mut growth, &product);
     merging::growth(&mut growth, &product);
 
-    let mut words = std::env::args().skip(1);
-    let (path, checking) = (words.next(), words.next());
     let checking = checking.map_or(String::new(), |path| {
         std::fs::read_to_string(&path).unwrap_or_else(|e| panic!("{path}: {e}"))
     });

@@ -11,6 +11,7 @@ use outside::random::Random;
 
 use crate::findings::{Page, Target};
 use crate::growth::Growth;
+use crate::rows::{kept, Row};
 use crate::search::name_of;
 use crate::times::{head, Job, Times, STATES};
 
@@ -27,16 +28,20 @@ static RELATED: Target = Target {
 static WORST: Target =
     Target { words: "merging of the worst inputs of filed size: under 500 ms", most: 500.0 };
 
-fn merge_times(product: &Product, input: &[u8]) -> (u32, u64, Times) {
-    let mut expected = vec![0; 7173];
-    let mut boxes = 0;
-    let answer = baseline::merge_input(input, &mut expected, Form::Packed, &mut boxes);
-    let mut buffer = vec![0; 7173];
-    let mut ours = product.merge.map(|merge| {
+/// The product's merging; its answer and what it writes are the expected ones.
+fn product_merge<'a>(product: &Product, input: &'a [u8]) -> Option<impl FnMut() -> u64 + 'a> {
+    let (mut buffer, mut expected) = (vec![0; 7173], vec![0; 7173]);
+    let answer = baseline::merge_input(input, &mut expected, Form::Packed, &mut 0);
+    product.merge.map(|merge| {
         assert_eq!(merge(input, &mut buffer), answer);
         assert_eq!(buffer, expected);
         move || merge(input, &mut buffer) as u64
-    });
+    })
+}
+
+fn merge_times(product: &Product, input: &[u8]) -> (u32, u64, Times) {
+    let (answer, boxes) = merge_boxes(input);
+    let mut ours = product_merge(product, input);
     let (mut one, mut other) = (vec![0; 7173], vec![0; 7173]);
     let times = Times::of(
         ours.as_mut().map(|job| job as Job),
@@ -135,15 +140,20 @@ pub fn mergings(page: &mut Page, product: &Product) {
     page.say(&table.text());
 }
 
+/// The rows above, of the product alone.
+pub fn rows(product: &Product) -> Vec<Row> {
+    let row = |(name, input, _): (String, Vec<u8>, _)| {
+        product_merge(product, kept(input)).map(|job| Row::new(JOB, name, 1, job))
+    };
+    merging_inputs().into_iter().filter_map(row).collect()
+}
+
 pub fn growth(growth: &mut Growth, product: &Product) {
     let sizes = [4, 8, 16, 32];
     let inputs = sizes.map(|n| hardest_merging(|random| related_filings(8, n, 1, random)));
     let mut jobs = vec![];
     for input in &inputs {
-        let ours = product.merge.map(|merge| {
-            let mut buffer = vec![0; 7173];
-            move || merge(input, &mut buffer) as u64
-        });
+        let ours = product_merge(product, input);
         let mut buffer = vec![0; 7173];
         jobs.push((ours, move || {
             baseline::merge_input(input, &mut buffer, Form::Packed, &mut 0) as u64

@@ -12,6 +12,7 @@ use outside::search::{decode, gap, Decoded, Packed};
 
 use crate::findings::{Page, Target};
 use crate::growth::Growth;
+use crate::rows::{kept, Row};
 use crate::times::{head, Job, Times, STATES};
 
 const JOB: &str = "search";
@@ -32,16 +33,26 @@ fn token(found: Option<Header>) -> u64 {
     found.map_or(0, |h| 1 + h[0] as u64)
 }
 
+/// The product's search of everything; its answer is the expected one.
+fn product_search<'a>(
+    product: &Product,
+    bytes: &'a [u8],
+    want: Want,
+    expected: Option<Header>,
+) -> Option<impl FnMut() -> u64 + 'a> {
+    let arguments = search_of(&ALL, want);
+    let mut header = [0u8; 13];
+    product.search.map(|search| {
+        assert_eq!(search(bytes, &arguments, &mut header), expected.is_some() as u32);
+        assert!(expected.is_none_or(|h| header_bytes(&h) == header));
+        move || search(bytes, &arguments, &mut header) as u64
+    })
+}
+
 /// The product's search for a gap.
 fn product_gap<'a>(product: &Product, bytes: &'a [u8]) -> Option<impl FnMut() -> u64 + 'a> {
     let expected = gap(&Packed { lists: [good_records(bytes), &[]] }, &mut 0);
-    let everything = search_of(&ALL, Want::Uncaught);
-    let mut header = [0u8; 13];
-    product.search.map(|search| {
-        assert_eq!(search(bytes, &everything, &mut header), expected.is_some() as u32);
-        assert!(expected.is_none_or(|h| header_bytes(&h) == header));
-        move || search(bytes, &everything, &mut header) as u64
-    })
+    product_search(product, bytes, Want::Uncaught, expected)
 }
 
 fn rust_gap(bytes: &[u8]) -> u64 {
@@ -107,6 +118,13 @@ pub fn name_of(shape: Shape, closing: Closing) -> String {
     format!("{shape} {closing}")
 }
 
+/// The families that cover, or lack the last header alone.
+fn families() -> Vec<(Shape, Closing)> {
+    let all = SHAPES.into_iter().flat_map(|shape| CLOSINGS.map(|closing| (shape, closing)));
+    let covers = |shape| matches!(shape, Shape::Partition | Shape::Exact);
+    all.filter(|(shape, closing)| *closing != Closing::Bare || covers(*shape)).collect()
+}
+
 pub fn searches(page: &mut Page, product: &Product) {
     page.say("## Search: the least header that a list leaves uncaught\n");
     page.say(
@@ -117,43 +135,42 @@ pub fn searches(page: &mut Page, product: &Product) {
     );
     let mut table = Table::new(&head(&["family", "boxes 32", "64", "128", "256", "growth"]));
     let (mut others, mut most, mut longest) = (0, 0, 0f64);
-    for shape in SHAPES {
-        for closing in CLOSINGS {
-            let covers = matches!(shape, Shape::Partition | Shape::Exact);
-            if closing == Closing::Bare && !covers {
-                continue;
-            }
-            let sizes = [32, 64, 128, 256].map(|n| hardest(shape, closing, n));
-            let boxes = sizes.each_ref().map(|(_, boxes, _)| *boxes);
-            let times = gap_times(product, &sizes[3].0);
-            let name = name_of(shape, closing);
-            times.note(page, JOB, &name);
-            page.hold(&BOXES, &name, boxes[3] as f64);
-            page.hold(&TIME, &name, times.ours() * 1e3);
-            page.hold(&RATIO, &name, times.ours() / times.packed);
-            if shape == Shape::Realistic && closing != Closing::Parts {
-                page.hold(&REALISTIC, &name, times.ours() * 1e3);
-            }
-            if boxes[3] < 100 {
-                others += 1;
-                most = most.max(boxes[3]);
-                longest = longest.max(times.ours());
-                continue;
-            }
-            let growth = (sizes[3].2 / sizes[2].2).log2();
-            page.hold(&GROWTH, &name, growth);
-            let mut row = vec![name];
-            row.extend(boxes.map(count));
-            row.push(format!("{growth:.1}"));
-            row.extend(times.columns());
-            table.row(row);
+    for (shape, closing) in families() {
+        let sizes = [32, 64, 128, 256].map(|n| hardest(shape, closing, n));
+        let boxes = sizes.each_ref().map(|(_, boxes, _)| *boxes);
+        let times = gap_times(product, &sizes[3].0);
+        let name = name_of(shape, closing);
+        times.note(page, JOB, &name);
+        page.hold(&BOXES, &name, boxes[3] as f64);
+        page.hold(&TIME, &name, times.ours() * 1e3);
+        page.hold(&RATIO, &name, times.ours() / times.packed);
+        if shape == Shape::Realistic && closing != Closing::Parts {
+            page.hold(&REALISTIC, &name, times.ours() * 1e3);
         }
+        if boxes[3] < 100 {
+            others += 1;
+            most = most.max(boxes[3]);
+            longest = longest.max(times.ours());
+            continue;
+        }
+        let growth = (sizes[3].2 / sizes[2].2).log2();
+        page.hold(&GROWTH, &name, growth);
+        let mut row = vec![name];
+        row.extend(boxes.map(count));
+        row.push(format!("{growth:.1}"));
+        row.extend(times.columns());
+        table.row(row);
     }
     page.say(&table.text());
     page.say(&format!(
         "The other {others} families: at most {most} boxes, at most {}.\n",
         time(longest)
     ));
+}
+
+fn realistic_sizes() -> Vec<(Closing, usize)> {
+    let sizes = |closing| [10, 32, 64, 128, 256].map(|n| (closing, n));
+    [Closing::All, Closing::Parts].into_iter().flat_map(sizes).collect()
 }
 
 pub fn realistic(page: &mut Page, product: &Product) {
@@ -163,28 +180,25 @@ pub fn realistic(page: &mut Page, product: &Product) {
          closed by a partition.\n",
     );
     let mut table = Table::new(&head(&["list", "entries", "boxes"]));
-    for closing in [Closing::All, Closing::Parts] {
-        for n in [10, 32, 64, 128, 256] {
-            let (list, boxes, _) = hardest(Shape::Realistic, closing, n);
-            let times = gap_times(product, &list);
-            if closing == Closing::All {
-                page.hold(&REALISTIC, &format!("{n} entries"), times.ours() * 1e3);
-            }
-            let name = name_of(Shape::Realistic, closing);
-            times.note(page, JOB, &format!("{name}, {n} entries"));
-            page.hold(&RATIO, &format!("{name}, {n} entries"), times.ours() / times.packed);
-            let mut row = vec![name, n.to_string(), count(boxes)];
-            row.extend(times.columns());
-            table.row(row);
+    for (closing, n) in realistic_sizes() {
+        let (list, boxes, _) = hardest(Shape::Realistic, closing, n);
+        let times = gap_times(product, &list);
+        if closing == Closing::All {
+            page.hold(&REALISTIC, &format!("{n} entries"), times.ours() * 1e3);
         }
+        let name = name_of(Shape::Realistic, closing);
+        times.note(page, JOB, &format!("{name}, {n} entries"));
+        page.hold(&RATIO, &format!("{name}, {n} entries"), times.ours() / times.packed);
+        let mut row = vec![name, n.to_string(), count(boxes)];
+        row.extend(times.columns());
+        table.row(row);
     }
     page.say(&table.text());
 }
 
-pub fn wants(page: &mut Page, product: &Product) {
-    page.say("## Search: the three wants\n");
-    page.say("In everything, over 256 entries with one action set.\n");
-    let mut table = Table::new(&head(&["list and want", "boxes"])[..7]);
+/// Lists with one action set and what is wanted of them, with names.
+fn wanted() -> Vec<(String, List, Want)> {
+    let mut rows = vec![];
     for (shape, closing) in [
         (Shape::Realistic, Closing::All),
         (Shape::Partition, Closing::Bare),
@@ -192,44 +206,70 @@ pub fn wants(page: &mut Page, product: &Product) {
     ] {
         let (mut list, ..) = hardest(shape, closing, 256);
         list.iter_mut().for_each(|e| e.actions = 4);
-        let bytes = &file(&list);
-        let last = list.len() - 1;
         for (word, want) in [
             ("uncaught", Want::Uncaught),
-            ("caught by the last", Want::CaughtBy(last)),
+            ("caught by the last", Want::CaughtBy(list.len() - 1)),
             ("other than that set", Want::Differing(4)),
         ] {
-            let name = format!("{}: {word}", name_of(shape, closing));
-            let mut boxes = 0;
-            let packed = Packed { lists: [&bytes[5..], &[]] };
-            let found = baseline::search(&packed, &ALL, want, &mut boxes);
-            let arguments = &search_of(&ALL, want);
-            let mut header = [0u8; 13];
-            let mut ours = product.search.map(|search| {
-                assert_eq!(search(bytes, arguments, &mut header), found.is_some() as u32);
-                move || search(bytes, arguments, &mut header) as u64
-            });
-            let times = Times::of(
-                ours.as_mut().map(|job| job as Job),
-                &mut || {
-                    let packed = Packed { lists: [good_records(bytes), &[]] };
-                    token(baseline::search(&packed, &ALL, want, &mut 0))
-                },
-                &mut || {
-                    let list = decode(good_records(bytes));
-                    token(baseline::search(&Decoded { lists: [&list, &[]] }, &ALL, want, &mut 0))
-                },
-                &mut || false,
-            );
-            times.note(page, JOB, &name);
-            page.hold(&RATIO, &name, times.ours() / times.packed);
-            let mut row = vec![name, count(boxes)];
-            row.extend(times.columns());
-            row.truncate(7);
-            table.row(row);
+            rows.push((format!("{}: {word}", name_of(shape, closing)), list.clone(), want));
         }
     }
+    rows
+}
+
+pub fn wants(page: &mut Page, product: &Product) {
+    page.say("## Search: the three wants\n");
+    page.say("In everything, over 256 entries with one action set.\n");
+    let mut table = Table::new(&head(&["list and want", "boxes"])[..7]);
+    for (name, list, want) in wanted() {
+        let bytes = &file(&list);
+        let mut boxes = 0;
+        let packed = Packed { lists: [&bytes[5..], &[]] };
+        let found = baseline::search(&packed, &ALL, want, &mut boxes);
+        let mut ours = product_search(product, bytes, want, found);
+        let times = Times::of(
+            ours.as_mut().map(|job| job as Job),
+            &mut || {
+                let packed = Packed { lists: [good_records(bytes), &[]] };
+                token(baseline::search(&packed, &ALL, want, &mut 0))
+            },
+            &mut || {
+                let list = decode(good_records(bytes));
+                token(baseline::search(&Decoded { lists: [&list, &[]] }, &ALL, want, &mut 0))
+            },
+            &mut || false,
+        );
+        times.note(page, JOB, &name);
+        page.hold(&RATIO, &name, times.ours() / times.packed);
+        let mut row = vec![name, count(boxes)];
+        row.extend(times.columns());
+        row.truncate(7);
+        table.row(row);
+    }
     page.say(&table.text());
+}
+
+/// The rows above, of the product alone.
+pub fn rows(product: &Product) -> Vec<Row> {
+    let mut rows = vec![];
+    let mut gap_row = |name: String, list: &List| {
+        rows.extend(product_gap(product, kept(file(list))).map(|job| Row::new(JOB, name, 1, job)));
+    };
+    for (shape, closing) in families() {
+        gap_row(name_of(shape, closing), &hardest(shape, closing, 256).0);
+    }
+    for (closing, n) in realistic_sizes() {
+        let name = format!("{}, {n} entries", name_of(Shape::Realistic, closing));
+        gap_row(name, &hardest(Shape::Realistic, closing, n).0);
+    }
+    for (name, list, want) in wanted() {
+        let bytes = kept(file(&list));
+        let packed = Packed { lists: [&bytes[5..], &[]] };
+        let found = baseline::search(&packed, &ALL, want, &mut 0);
+        let job = product_search(product, bytes, want, found);
+        rows.extend(job.map(|job| Row::new(JOB, name, 1, job)));
+    }
+    rows
 }
 
 /// The lists of a family of one length, searched one after the other.
