@@ -1,4 +1,4 @@
-//! Measures search, comparison, lookup and merging, and writes a Markdown page:
+//! Measures search, comparison, lookup and merging, and their stack, and writes a Markdown page:
 //! bench [PATH [CHECKING]]. The product's columns are filled as far as its archives are linked (see
 //! product.rs). CHECKING is a file with what is to be said of the proofs, put at the page's end.
 //! `bench rows` times the product's rows as they are asked for (see rows.rs).
@@ -10,6 +10,7 @@ mod lookup;
 mod merging;
 mod rows;
 mod search;
+mod stack;
 mod times;
 
 use findings::Page;
@@ -63,6 +64,7 @@ fn main() {
     comparison::comparisons(&mut page, &product);
     lookup::lookups(&mut page, &product);
     merging::mergings(&mut page, &product);
+    stack::stacks(&mut page, &product);
     let mut growth = Growth::new();
     search::growth(&mut growth, &product);
     comparison::growth(&mut growth, &product);

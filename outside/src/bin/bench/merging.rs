@@ -52,8 +52,9 @@ fn merge_times(product: &Product, input: &[u8]) -> (u32, u64, Times) {
     (answer, boxes, times)
 }
 
-fn answer_word(answer: u32) -> String {
+pub fn answer_word(answer: u32) -> String {
     match answer {
+        264 => "bare".to_string(),
         265 => "crowded".to_string(),
         266 => "conflict".to_string(),
         1 => "1 entry".to_string(),
