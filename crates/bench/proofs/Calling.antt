@@ -16,7 +16,7 @@ use Rattle.policy.specs.declared.refusal.Refusal.{Refusal}
 use Rattle.policy.specs.declared.refusal.Refusal.the-variants.{Party, Vacant}
 use Rattle.policy.specs.Header.{headers}
 use Rattle.policy.specs.Refusals.{Answer, refusal, accepted, isAccepted, refuse}
-use Rattle.policy.proofs.Rows.{refusal-refuses, turns-away, goes-past}
+use Rattle.policy.proofs.Refusals.{refusal-refuses, turns-away, goes-past}
 use Rattle.wire.specs.declared.check.Checked.{Checked}
 use Rattle.wire.specs.declared.check.Checked.the-variants.{Good, Refused}
 use Rattle.wire.specs.Format.{filedLimit, countIn, fileSize, recordsIn}
@@ -217,8 +217,8 @@ module _ (b : Bench) (buffer after : List ℕ) (i : ℕ) (w : Option Working) (n
       long : (k : ℕ) → k ≡ 8 → k ≤ i
       long k e = omega arith
 
-  merging-is : end.mergingOf (ended headers w) buffer ≡ mergingOf (bookOf b) buffer
-  merging-is = ap (λ (x : Merging). end.mergingOf x buffer)
+  merging-is : end.endingOf (ended headers w) buffer ≡ mergingOf (bookOf b) buffer
+  merging-is = ap (λ (x : Merging). end.endingOf x buffer)
       (stages-end (inForce (bookOf b)) w (e .0 ∙ ap (λ (k : Book). addedAll headers none (inForce k)) whole))
 
   right : (a : MergeAnswer) → _≡_ {A = Answer × List ℕ} (mergedAs a, after) (mergingOf (bookOf b) buffer) → MergedRight b buffer a after b
@@ -231,9 +231,9 @@ module _ (b : Bench) (buffer after : List ℕ) (i : ℕ) (w : Option Working) (n
           (demand-3 buffer (inForce (bookAfter cs)) (all-covering cs)
           (reads-back (inForce (bookAfter cs)) (in-force AllFit (bookAfter cs) (subst (EachSlot AllFit) (whole ∙ k) (e .1)))))
 
-  module _ (x : Merged) (f : end.merging x after ≡ end.mergingOf (ended headers w) buffer) where
+  module _ (x : Merged) (f : end.ending x after ≡ end.endingOf (ended headers w) buffer) where
     pub merge-done : (c d : ℕ) → x ≡ ending.Done c d → MergedRight b buffer (merge.Merged c d) after b
-    merge-done c d q = right (merge.Merged c d) (ap (λ (y : Merged). end.merging y after) (sym q) ∙ f ∙ merging-is)
+    merge-done c d q = right (merge.Merged c d) (ap (λ (y : Merged). end.ending y after) (sym q) ∙ f ∙ merging-is)
 
     pub merge-refused : (y : Refusal) → x ≡ ending.Refused y → MergedRight b buffer (merge.Refused y) after b
-    merge-refused y q = right (merge.Refused y) (ap (λ (z : Merged). end.merging z after) (sym q) ∙ f ∙ merging-is)
+    merge-refused y q = right (merge.Refused y) (ap (λ (z : Merged). end.ending z after) (sym q) ∙ f ∙ merging-is)

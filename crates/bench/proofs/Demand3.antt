@@ -14,16 +14,18 @@ use Rattle.policy.specs.declared.header.Header.{Header}
 use Rattle.policy.specs.declared.header.Found.{Found}
 use Rattle.policy.specs.declared.header.Found.the-variants.{At, Nothing}
 use Rattle.policy.specs.declared.entry.Entry.{Entry}
+use Rattle.policy.specs.declared.refusal.Refusal.{Refusal}
 use Rattle.policy.specs.declared.refusal.Refusal.the-variants.{Bare, Crowded, Conflict, Narrow}
 use Rattle.policy.specs.Header.{among, headers}
 use Rattle.policy.specs.Policy.{allowed, caught}
 use Rattle.policy.specs.Refusals.{Answer, refusal, accepted, isAccepted, numbers, refuse, firstOf}
 use Rattle.policy.proofs.Bool.{clash, is-false, not-true}
+use Rattle.policy.proofs.Refusals.{refusal-number, refusal-same, refusal-clash}
 use Rattle.wire.specs.Format.{listIn, fileSize, fileOf}
-use Rattle.reconcile.specs.Rules.{Working, list, crowded, working, Merging, bare, overfull, conflict, merged, finished, mergeOf, conflictOf, commonActions, lacking, same}
+use Rattle.reconcile.specs.Rules.{Working, list, crowded, working, Merging, refused, merged, finished, mergeOf, conflictOf, commonActions, lacking, same}
 use Rattle.reconcile.proofs.Decide.{Witness}
 use Rattle.reconcile.proofs.Common.{same-by, common-permits, common-caught, empty-permits, permits-empty}
-use Rattle.reconcile.proofs.Merging.{merged-permits, merged-reconciles, merged-widest, merged-tight, merged-covers, Conflicts, conflict-tells, conflict-made, conflict-some, accepted-when}
+use Rattle.reconcile.proofs.Merging.{merged-permits, merged-reconciles, merged-widest, merged-irredundant, merged-covers, Conflicts, conflict-tells, conflict-made, conflict-some, accepted-when}
 use Rattle.wire.specs.Answers.{ifAccepted}
 use Rattle.wire.specs.Writing.{placed}
 use Rattle.wire.proofs.Records.{length-file}
@@ -34,24 +36,6 @@ use Rattle.bench.proofs.Trace.{AllCovering}
 -- a merged list is read again from the start of what holds its file
 abbrev pub ReadsBack : List (List Entry) → Type 0
 ReadsBack ps = (m : List Entry) → mergeOf headers ps ≡ merged m → (r : List ℕ) → listIn (fileOf m ++ r) ≡ m
-
--- ---- answers tell cases apart
-
-number-apart {ℓ} : {A : Type ℓ} (a b : Answer) → a ≡ b → (a .number ≡ b .number → ⊥) → A
-number-apart a b e n = absurd (n (ap (λ (x : Answer). x .number) e))
-
--- the header that a conflict names
-same-conflict : (h g : Header) → refusal (Conflict h) ≡ refusal (Conflict g) → h ≡ g
-same-conflict h g e = λ i. record {
-  local = at 0 i;
-  remote = at 1 i;
-  «local_port» = at 2 i;
-  «remote_port» = at 3 i;
-  protocol = at 4 i;
-}
-  where
-    at : (n : ℕ) → getD (numbers h) n 0 ≡ getD (numbers g) n 0
-    at n = ap (λ (a : Answer). getD (a .values) n 0) e
 
 -- ---- no action in common
 
@@ -73,7 +57,7 @@ module _ (p : List Entry) (ps : List (List Entry)) (covering : AllCovering (p �
     covering = merged-covers headers p ps m e covering;
     reconciles = merged-reconciles headers p ps m e;
     widest = λ q c r. merged-widest headers p ps m e q r;
-    tight = λ front d back w. struck (front ++ back) (merged-tight headers p ps m e front d back w);
+    irredundant = λ front d back w. struck (front ++ back) (merged-irredundant headers p ps m e front d back w);
   }
     where
       struck : (q : List Entry) → Witness headers (λ h. not (same (allowed q h) (allowed m h)))
@@ -99,23 +83,9 @@ module _ (buffer : List ℕ) where
       go false e = absurd (a (sym (ap (λ (x : Answer). x .number) e)))
 
   -- what the answer says of the merging
-  told-bare : (r : Merging) → answerTo r ≡ refusal Bare → r ≡ bare
-  told-bare bare e = refl
-  told-bare overfull e = number-apart (refusal Crowded) (refusal Bare) e λ z. omega arith
-  told-bare (conflict h) e = number-apart (refusal (Conflict h)) (refusal Bare) e λ z. omega arith
-  told-bare (merged m) e = apart-merged m (refusal Bare) e (λ z. omega arith) (λ z. omega arith)
-
-  told-crowded : (r : Merging) → answerTo r ≡ refusal Crowded → r ≡ overfull
-  told-crowded bare e = number-apart (refusal Bare) (refusal Crowded) e λ z. omega arith
-  told-crowded overfull e = refl
-  told-crowded (conflict h) e = number-apart (refusal (Conflict h)) (refusal Crowded) e λ z. omega arith
-  told-crowded (merged m) e = apart-merged m (refusal Crowded) e (λ z. omega arith) (λ z. omega arith)
-
-  told-conflict : (r : Merging) (h : Header) → answerTo r ≡ refusal (Conflict h) → r ≡ conflict h
-  told-conflict bare h e = number-apart (refusal Bare) (refusal (Conflict h)) e λ z. omega arith
-  told-conflict overfull h e = number-apart (refusal Crowded) (refusal (Conflict h)) e λ z. omega arith
-  told-conflict (conflict g) h e = ap conflict (same-conflict g h e)
-  told-conflict (merged m) h e = apart-merged m (refusal (Conflict h)) e (λ z. omega arith) (λ z. omega arith)
+  told-refused : (r : Merging) (s : Refusal) → answerTo r ≡ refusal s → (refusal s .number ≡ 11 → ⊥) → r ≡ refused s
+  told-refused (refused r) s e n = ap refused (refusal-same r s e)
+  told-refused (merged m) s e n = apart-merged m (refusal s) e (refusal-number s) n
 
   -- an acceptance: the file stands at the start of the buffer
   pub record Wrote (r : Merging) (n l : ℕ) : Type 0 where
@@ -126,14 +96,12 @@ module _ (buffer : List ℕ) where
     pub after : bufferAfter r ≡ placed (fileOf list) buffer
 
   told-accepted : (r : Merging) (n l : ℕ) → answerTo r ≡ accepted (n ∷ l ∷ []) → Wrote r n l
-  told-accepted bare n l e = number-apart (refusal Bare) (accepted (n ∷ l ∷ [])) e λ z. omega arith
-  told-accepted overfull n l e = number-apart (refusal Crowded) (accepted (n ∷ l ∷ [])) e λ z. omega arith
-  told-accepted (conflict h) n l e = number-apart (refusal (Conflict h)) (accepted (n ∷ l ∷ [])) e λ z. omega arith
+  told-accepted (refused r) n l e = refusal-clash r (n ∷ l ∷ []) e
   told-accepted (merged m) n l e = go (ltb (length buffer) (fileSize (length m))) refl e
     where
       go : (b : Bool) → ltb (length buffer) (fileSize (length m)) ≡ b
           → firstOf (refuse b (Narrow (fileSize (length m))) ∷ []) (accepted (length m ∷ fileSize (length m) ∷ [])) ≡ accepted (n ∷ l ∷ []) → Wrote (merged m) n l
-      go true t e = number-apart (refusal (Narrow (fileSize (length m)))) (accepted (n ∷ l ∷ [])) e λ z. omega arith
+      go true t e = refusal-clash (Narrow (fileSize (length m))) (n ∷ l ∷ []) e
       go false t e = record {
         list = m;
         is = refl;
@@ -170,21 +138,21 @@ module _ (buffer : List ℕ) where
     conflict-named = λ h r. absurd r;
     conflict-found = λ r. absurd r;
     otherwise = λ r. absurd r;
-    merged-list = λ n l e. number-apart (refusal Bare) (accepted (n ∷ l ∷ [])) e λ z. omega arith;
+    merged-list = λ n l e. refusal-clash Bare (n ∷ l ∷ []) e;
     bare = (λ e. refl, λ e. refl);
     crowded-only = λ e r. r;
     crowded-when = λ p qs e. absurd (let z : _≡_ {A = ℕ} 0 1 = cc in omega arith);
     refused = λ e. refl;
   }
   demand-3 (p ∷ ps) covering back = record {
-    conflict-named = λ h roomy. (λ e. named h (conflict-tells headers p ps h (told-conflict (mergeOf headers (p ∷ ps)) h e)), λ w. ap answerTo (conflict-made headers p ps h (made h roomy w)));
-    conflict-found = λ roomy h a n. let c = conflict-some headers p ps h roomy a (common-none p ps covering h a n) in (c .0, ap answerTo (c .1));
-    otherwise = λ roomy none.
-        let m = accepted-when headers p ps roomy (λ h a. is-false (lacking (p ∷ ps) h) λ t. none h a (none-common p ps covering h a t)) in
+    conflict-named = λ h within. (λ e. named h (conflict-tells headers p ps h (told-refused (mergeOf headers (p ∷ ps)) (Conflict h) e λ z. omega arith)), λ w. ap answerTo (conflict-made headers p ps h (made h within w)));
+    conflict-found = λ within h a n. let c = conflict-some headers p ps h within a (common-none p ps covering h a n) in (c .0, ap answerTo (c .1));
+    otherwise = λ within none.
+        let m = accepted-when headers p ps within (λ h a. is-false (lacking (p ∷ ps) h) λ t. none h a (none-common p ps covering h a t)) in
         written (p ∷ ps) (m .0) (m .1);
     merged-list = λ n l e. read n l (told-accepted (mergeOf headers (p ∷ ps)) n l e);
-    bare = (λ e. absurd (never-bare (working headers p ps) (conflictOf headers (p ∷ ps)) (told-bare (mergeOf headers (p ∷ ps)) e)), λ e. absurd (let z : _≡_ {A = ℕ} 0 1 = cc in omega arith));
-    crowded-only = λ e roomy. roomy (was-crowded (working headers p ps) (conflictOf headers (p ∷ ps)) (told-crowded (mergeOf headers (p ∷ ps)) e));
+    bare = (λ e. absurd (never-bare (working headers p ps) (conflictOf headers (p ∷ ps)) (told-refused (mergeOf headers (p ∷ ps)) Bare e λ z. omega arith)), λ e. absurd (let z : _≡_ {A = ℕ} 0 1 = cc in omega arith));
+    crowded-only = λ e within. within (was-crowded (working headers p ps) (conflictOf headers (p ∷ ps)) (told-refused (mergeOf headers (p ∷ ps)) Crowded e λ z. omega arith));
     crowded-when = λ q qs e w. ap answerTo (ap (mergeOf headers) e ∙ ap (λ (v : Working). finished headers v (conflictOf headers (q ∷ qs))) w);
     refused = left-alone (mergeOf headers (p ∷ ps));
   }
@@ -197,19 +165,19 @@ module _ (buffer : List ℕ) where
       }
 
       made : (h : Header) → (working headers p ps ≡ crowded → ⊥) → LeastWithout (p ∷ ps) h → Conflicts headers p ps h
-      made h roomy w = record {
-        roomy = roomy;
+      made h within w = record {
+        within = within;
         member = w .member;
         empty = common-none p ps covering h (w .member) (w .lacking);
         earliest = λ g a b. is-false (lacking (p ∷ ps) g) λ t. w .earliest g a b (none-common p ps covering g a t);
       }
 
-      never-bare : (w : Working) (c : Found) → finished headers w c ≡ bare → ⊥
+      never-bare : (w : Working) (c : Found) → finished headers w c ≡ refused Bare → ⊥
       never-bare (list w) (At h) e = let z : _≡_ {A = ℕ} 0 1 = cc in omega arith
       never-bare (list w) Nothing e = let z : _≡_ {A = ℕ} 0 1 = cc in omega arith
       never-bare crowded c e = let z : _≡_ {A = ℕ} 0 1 = cc in omega arith
 
-      was-crowded : (w : Working) (c : Found) → finished headers w c ≡ overfull → w ≡ crowded
+      was-crowded : (w : Working) (c : Found) → finished headers w c ≡ refused Crowded → w ≡ crowded
       was-crowded (list w) (At h) e = absurd (let z : _≡_ {A = ℕ} 0 1 = cc in omega arith)
       was-crowded (list w) Nothing e = absurd (let z : _≡_ {A = ℕ} 0 1 = cc in omega arith)
       was-crowded crowded c e = refl

@@ -11,7 +11,7 @@ use lib.Seq.{take-append-seam}
 use borrow.Author.Tests.{ne-eqb}
 use Rattle.policy.specs.declared.refusal.Refusal.the-variants.{Party, Vacant}
 use Rattle.policy.specs.Refusals.{accepted, isAccepted, refuse}
-use Rattle.policy.proofs.Rows.{Pass, refuse-refuses, accepted-passes, refuse-passes}
+use Rattle.policy.proofs.Refusals.{Pass, refuse-refuses, accepted-passes, refuse-passes}
 use Rattle.wire.specs.Format.{headSize, recordSize, filedLimit, countIn, entriesFrom, recordsIn, listIn, fileSize}
 use Rattle.wire.proofs.Checked.{GoodFile}
 use Rattle.wire.proofs.Checks.{limits-told}

@@ -12,7 +12,7 @@ use Rattle.policy.specs.Refusals.{Answer, refusal, accepted, refuse, firstOf}
 use Rattle.wire.specs.Format.{filedLimit, countIn}
 use Rattle.region.specs.ListChecks.{listChecks}
 use Rattle.reconcile.specs.Rules.{mergeOf}
-use Rattle.reconcile.specs.Ending.{mergingOf as mergingIn}
+use Rattle.reconcile.specs.Ending.{endingOf}
 use Rattle.bench.specs.Book.{parties, Book, inForce}
 use Rattle.bench.specs.declared.calls.FileAnswer.{FileAnswer}
 use Rattle.bench.specs.declared.calls.FileAnswer.the-variants as file
@@ -57,4 +57,4 @@ withdrawalOf k p = firstOf (refuse (badParty p) Party ∷ refuse (isVacant (getD
 
 -- the answer, and the buffer's final contents, for the lists in force (reconcile, specs/Ending.antt)
 abbrev pub mergingOf : Book → List ℕ → Answer × List ℕ
-mergingOf k buffer = mergingIn (mergeOf headers (inForce k)) buffer
+mergingOf k buffer = endingOf (mergeOf headers (inForce k)) buffer

@@ -28,9 +28,9 @@ pub record LeastWithout (ps : List (List Entry)) (h : Header) : Type 0 where
   pub earliest : (g : Header) → among headers g ≡ true → before g h ≡ true → NoCommonAction ps g → ⊥
 
 -- a list is in force, and the working list is within 256 entries after each party
-abbrev pub InForceAndRoomy : List (List Entry) → Type 0
-InForceAndRoomy [] = ⊥
-InForceAndRoomy (p ∷ ps) = working headers p ps ≡ crowded → ⊥
+abbrev pub WithinLimit : List (List Entry) → Type 0
+WithinLimit [] = ⊥
+WithinLimit (p ∷ ps) = working headers p ps ≡ crowded → ⊥
 
 -- m is the list that the rules give; in a long enough buffer the merging is accepted with its file, and in a shorter one refused as narrow
 pub record Accepted (ps : List (List Entry)) (buffer : List ℕ) (answer : Answer) (after : List ℕ) : Type 0 where
@@ -52,20 +52,20 @@ pub record MergedList (ps : List (List Entry)) (m : List Entry) (n : ℕ) : Type
   -- every other covering list that refines all lists in force refines it
   pub widest : (q : List Entry) → Covering headers q → Reconciles headers ps q → Refines headers q m
   -- striking any one of its entries leaves some header uncaught or allowed a different set
-  pub tight : (front : List Entry) (e : Entry) (back : List Entry) → m ≡ front ++ e ∷ back
+  pub irredundant : (front : List Entry) (e : Entry) (back : List Entry) → m ≡ front ++ e ∷ back
       → (h : Header) × (among headers h ≡ true) × ((caught (front ++ back) h ≡ false) ⊎ (allowed (front ++ back) h ≡ allowed m h → ⊥))
 
 pub record Demand3 (ps : List (List Entry)) (buffer : List ℕ) (answer : Answer) (after : List ℕ) : Type 0 where
   -- it is refused for conflict exactly when some header has no action common to its first matches in all lists in force
-  pub conflict-named : (h : Header) → InForceAndRoomy ps → (answer ≡ refusal (Conflict h)) ↔ LeastWithout ps h
-  pub conflict-found : InForceAndRoomy ps → (h : Header) → among headers h ≡ true → NoCommonAction ps h → (g : Header) × (answer ≡ refusal (Conflict g))
+  pub conflict-named : (h : Header) → WithinLimit ps → (answer ≡ refusal (Conflict h)) ↔ LeastWithout ps h
+  pub conflict-found : WithinLimit ps → (h : Header) → among headers h ≡ true → NoCommonAction ps h → (g : Header) × (answer ≡ refusal (Conflict g))
   -- otherwise, in a long enough buffer, it is accepted, with the file that 01's rules give
-  pub otherwise : InForceAndRoomy ps → ((h : Header) → among headers h ≡ true → NoCommonAction ps h → ⊥) → Accepted ps buffer answer after
+  pub otherwise : WithinLimit ps → ((h : Header) → among headers h ≡ true → NoCommonAction ps h → ⊥) → Accepted ps buffer answer after
   -- the merged list is the one read from the start of the buffer, as many bytes as the answer's length says
   pub merged-list : (n l : ℕ) → answer ≡ accepted (n ∷ l ∷ []) → MergedList ps (listIn (take l after)) n
   -- bare and crowded exactly in their cases
   pub bare : (answer ≡ refusal Bare) ↔ (ps ≡ [])
-  pub crowded-only : answer ≡ refusal Crowded → InForceAndRoomy ps → ⊥
+  pub crowded-only : answer ≡ refusal Crowded → WithinLimit ps → ⊥
   pub crowded-when : (p : List Entry) (qs : List (List Entry)) → ps ≡ p ∷ qs → working headers p qs ≡ crowded → answer ≡ refusal Crowded
   -- a refused merging leaves the buffer as it was
   pub refused : isAccepted answer ≡ false → after ≡ buffer

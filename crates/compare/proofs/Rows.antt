@@ -12,25 +12,25 @@ use Rattle.policy.specs.declared.refusal.Refusal.{Refusal}
 use Rattle.policy.specs.Header.{headers}
 use Rattle.policy.specs.Policy.{Covering}
 use Rattle.policy.specs.Refusals.{Answer, refusal, accepted, firstOf}
-use Rattle.policy.proofs.Rows.{Pass, refusal-clash}
+use Rattle.policy.proofs.Refusals.{Pass, refusal-clash}
 use Rattle.wire.specs.declared.check.Checked.{Checked}
 use Rattle.wire.specs.declared.check.Checked.the-variants.{Good, Refused}
 use Rattle.wire.specs.Format.{listLimit, countIn, listIn}
 use Rattle.wire.specs.Checks.{checked}
 use Rattle.region.specs.ListChecks.{listChecks, listChecksOf}
 use Rattle.region.proofs.ListChecks.{passes-tell, good-passes}
-use Rattle.compare.specs.Comparison.{FileAnswer, compared, about, excessOf, verdict, comparisonOf}
-use Rattle.compare.specs.declared.files.Compared.the-variants.{Refines, Exceeds, First, Second}
+use Rattle.compare.specs.Comparison.{ComparisonAnswer, compared, about, excessOf, verdict, comparisonOf}
+use Rattle.compare.specs.declared.files.Compared.the-variants.{Yes, No, First, Second}
 
 -- a refusal is said of its file, whatever comes after
-refused-first : (k : ℕ) (rs : List (Option Answer)) (vs : List ℕ) (x : Refusal) (qs : List (Option FileAnswer)) (a : FileAnswer)
+refused-first : (k : ℕ) (rs : List (Option Answer)) (vs : List ℕ) (x : Refusal) (qs : List (Option ComparisonAnswer)) (a : ComparisonAnswer)
     → refusal x ≡ firstOf rs (accepted vs) → record { file = k; answer = refusal x } ≡ firstOf (map (about k) rs ++ qs) a
 refused-first k [] vs x qs a e = refusal-clash x vs e
 refused-first k (some y ∷ rs) vs x qs a e = ap (λ (y : Answer). record { file = k; answer = y }) e
 refused-first k (none ∷ rs) vs x qs a e = refused-first k rs vs x qs a e
 
 -- where none refuses, what comes after decides
-passed-first : (k : ℕ) (rs : List (Option Answer)) (qs : List (Option FileAnswer)) (a : FileAnswer) → Pass rs → firstOf (map (about k) rs ++ qs) a ≡ firstOf qs a
+passed-first : (k : ℕ) (rs : List (Option Answer)) (qs : List (Option ComparisonAnswer)) (a : ComparisonAnswer) → Pass rs → firstOf (map (about k) rs ++ qs) a ≡ firstOf qs a
 passed-first k [] qs a p = refl
 passed-first k (some y ∷ rs) qs a p = absurd p
 passed-first k (none ∷ rs) qs a p = passed-first k rs qs a p
@@ -55,7 +55,7 @@ module _ (s t : List ℕ) where
     unfolding listChecksOf
     second-refused q x f h =
         refused-first 2 (listChecks t listLimit) (countIn t ∷ []) x [] (verdict (excessOf (listIn s) (listIn t))) (sym (ap checked h) ∙ f)
-        ∙ ap (λ (l : List (Option FileAnswer)). firstOf l (verdict (excessOf (listIn s) (listIn t)))) (append-nil (map (about 2) (listChecks t listLimit)))
+        ∙ ap (λ (l : List (Option ComparisonAnswer)). firstOf l (verdict (excessOf (listIn s) (listIn t)))) (append-nil (map (about 2) (listChecks t listLimit)))
         ∙ second-decides
 
     module _ (q : Checked) (m : ℕ) (f : checked q ≡ listChecksOf t listLimit) (h : q ≡ Good m) (c : Found) (x y : List Entry)
@@ -64,11 +64,11 @@ module _ (s t : List ℕ) where
       both-good =
           ap verdict (w ∙ ap₂ excessOf u v)
           ∙ sym (passed-first 2 (listChecks t listLimit) [] (verdict (excessOf (listIn s) (listIn t))) (good-passes t listLimit q m f h))
-          ∙ ap (λ (l : List (Option FileAnswer)). firstOf l (verdict (excessOf (listIn s) (listIn t)))) (append-nil (map (about 2) (listChecks t listLimit)))
+          ∙ ap (λ (l : List (Option ComparisonAnswer)). firstOf l (verdict (excessOf (listIn s) (listIn t)))) (append-nil (map (about 2) (listChecks t listLimit)))
           ∙ second-decides
 
-      pub says-refines : c ≡ Nothing → compared Refines ≡ comparisonOf s t
-      says-refines z = ap verdict (sym z) ∙ both-good
+      pub says-yes : c ≡ Nothing → compared Yes ≡ comparisonOf s t
+      says-yes z = ap verdict (sym z) ∙ both-good
 
-      pub says-exceeds : (k : Header) → c ≡ At k → compared (Exceeds k) ≡ comparisonOf s t
-      says-exceeds k z = ap verdict (sym z) ∙ both-good
+      pub says-no : (k : Header) → c ≡ At k → compared (No k) ≡ comparisonOf s t
+      says-no k z = ap verdict (sym z) ∙ both-good

@@ -12,22 +12,22 @@ use Rattle.policy.specs.Refusals.{Answer, refusal, accepted, numbers, firstOf}
 use Rattle.wire.specs.Format.{listLimit, listIn}
 use Rattle.region.specs.ListChecks.{listChecks}
 use Rattle.compare.specs.declared.files.Compared.{Compared}
-use Rattle.compare.specs.declared.files.Compared.the-variants.{Refines, Exceeds, First, Second}
+use Rattle.compare.specs.declared.files.Compared.the-variants.{Yes, No, First, Second}
 
 -- an answer, and the number of the file that a refusal is about: 1 or 2, and 0 where there is no refusal
-pub record FileAnswer : Type 0 where
+pub record ComparisonAnswer : Type 0 where
   pub file : ℕ
   pub answer : Answer
 
 -- 01's number and values of each case: yes carries nothing, no carries the header
-abbrev pub compared : Compared → FileAnswer
-compared Refines = record { file = 0; answer = accepted [] }
-compared (Exceeds h) = record { file = 0; answer = accepted (numbers h) }
+abbrev pub compared : Compared → ComparisonAnswer
+compared Yes = record { file = 0; answer = accepted [] }
+compared (No h) = record { file = 0; answer = accepted (numbers h) }
 compared (First r) = record { file = 1; answer = refusal r }
 compared (Second r) = record { file = 2; answer = refusal r }
 
 -- the checks of a file, their refusals said of file number k
-abbrev pub about : ℕ → Option Answer → Option FileAnswer
+abbrev pub about : ℕ → Option Answer → Option ComparisonAnswer
 about k none = none
 about k (some a) = some (record { file = k; answer = a })
 
@@ -35,11 +35,11 @@ about k (some a) = some (record { file = k; answer = a })
 abbrev pub excessOf : List Entry → List Entry → Found
 excessOf p q = least headers (exceeds p q)
 
-abbrev pub verdict : Found → FileAnswer
-verdict Nothing = compared Refines
-verdict (At h) = compared (Exceeds h)
+abbrev pub verdict : Found → ComparisonAnswer
+verdict Nothing = compared Yes
+verdict (At h) = compared (No h)
 
 -- checks 1 to 5 on the first file, then on the second, then the comparison
-unfoldable pub comparisonOf : List ℕ → List ℕ → FileAnswer
+unfoldable pub comparisonOf : List ℕ → List ℕ → ComparisonAnswer
 comparisonOf s t =
     firstOf (map (about 1) (listChecks s listLimit) ++ map (about 2) (listChecks t listLimit)) (verdict (excessOf (listIn s) (listIn t)))

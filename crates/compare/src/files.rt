@@ -18,9 +18,9 @@ ghost use Rattle.compare.specs.Comparison.{compared, comparisonOf};
 
 pub enum Compared {
     // The first file refines the second.
-    Refines,
+    Yes,
     // It does not: the least header that it allows an action that the second does not.
-    Exceeds(Header),
+    No(Header),
     // Why the first file is refused, or the second.
     First(Refusal),
     Second(Refusal),
@@ -40,8 +40,8 @@ fn compare_decoded(first: &[u8], second: &[u8], p: &mut [u32], q: &mut [u32]) ->
                 let i = ROW * n;
                 let j = ROW * m;
                 match least_excess(&p[0..i], &q[0..j]) {
-                    Found::Nothing => Compared::Refines,
-                    Found::At(h) => Compared::Exceeds(h),
+                    Found::Nothing => Compared::Yes,
+                    Found::At(h) => Compared::No(h),
                 }
             }
         },

@@ -8,6 +8,7 @@ use Rattle.policy.specs.declared.header.Header.{Header}
 use Rattle.policy.specs.declared.header.Found.the-variants.{At, Nothing}
 use Rattle.policy.specs.declared.entry.Entry.{Entry}
 use Rattle.policy.specs.declared.entry.Caught.the-variants.{By}
+use Rattle.policy.specs.declared.refusal.Refusal.the-variants.{Conflict}
 use Rattle.policy.specs.Box.{Range, range}
 use Rattle.policy.specs.Header.{header, everything, headers}
 use Rattle.policy.specs.Least.{least}
@@ -15,7 +16,7 @@ use Rattle.policy.specs.Actions.{discard, bypass}
 use Rattle.policy.specs.Entry.{entry, crossed}
 use Rattle.policy.specs.Policy.{catcher, missed}
 use Rattle.region.proofs.Model.{gap-is}
-use Rattle.reconcile.specs.Rules.{conflict, merged, mergeOf}
+use Rattle.reconcile.specs.Rules.{refused, merged, mergeOf}
 use Rattle.reconcile.proofs.Model.{mergeBy-is}
 
 -- ---- how 01 writes headers and entries
@@ -89,7 +90,7 @@ p5-good a = refl
 -- ---- merging the lists in force, in rising number of their parties
 
 -- P6. ALL {bypass} against ALL {discard}: conflict at 0,0,0,0,0.
-pub p6 : mergeOf headers ((all bypass ∷ []) ∷ (all discard ∷ []) ∷ []) ≡ conflict (at 0 0 0 0 0)
+pub p6 : mergeOf headers ((all bypass ∷ []) ∷ (all discard ∷ []) ∷ []) ≡ refused (Conflict (at 0 0 0 0 0))
 p6 = mergeBy-is headers ((all bypass ∷ []) ∷ (all discard ∷ []) ∷ [])
 
 -- policies A and B of 004's appendix: ESP transport is bit 2, the net is 10.1.*.*, and A3 allows x
@@ -111,7 +112,7 @@ abbrev policyB : List Entry
 policyB = selecting anyAddress (range 80 80) (range 6 6) (bypass + espTransport) ∷ all discard ∷ []
 
 -- P7. Policies A (party 1) and B (party 2): conflict at 0,0,0,0,1.
-pub p7 : mergeOf headers (policyA bypass ∷ policyB ∷ []) ≡ conflict (at 0 0 0 0 1)
+pub p7 : mergeOf headers (policyA bypass ∷ policyB ∷ []) ≡ refused (Conflict (at 0 0 0 0 1))
 p7 = mergeBy-is headers (policyA bypass ∷ policyB ∷ [])
 
 -- P8. The same with A3 allowing bypass and discard: three entries, C11, C21, C42.
@@ -130,7 +131,7 @@ pub p9 : mergeOf headers ((all discard ∷ all bypass ∷ []) ∷ []) ≡ merged
 p9 = mergeBy-is headers ((all discard ∷ all bypass ∷ []) ∷ [])
 
 -- P10. Protocol 1 {} before ALL {discard}: conflict at 0,0,0,0,1. After it: merges to one entry.
-pub p10-before : mergeOf headers ((protocols (range 1 1) 0 ∷ all discard ∷ []) ∷ []) ≡ conflict (at 0 0 0 0 1)
+pub p10-before : mergeOf headers ((protocols (range 1 1) 0 ∷ all discard ∷ []) ∷ []) ≡ refused (Conflict (at 0 0 0 0 1))
 p10-before = mergeBy-is headers ((protocols (range 1 1) 0 ∷ all discard ∷ []) ∷ [])
 
 pub p10-after : mergeOf headers ((all discard ∷ protocols (range 1 1) 0 ∷ []) ∷ []) ≡ merged (all discard ∷ [])

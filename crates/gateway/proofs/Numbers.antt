@@ -13,7 +13,7 @@ use mir.Val.{Fits}
 use Rattle.policy.specs.declared.header.Header.{Header}
 use Rattle.policy.specs.declared.refusal.Refusal.{Refusal}
 use Rattle.policy.specs.Refusals.{refusal, numbers}
-use Rattle.policy.proofs.Rows.{refusal-refuses}
+use Rattle.policy.proofs.Refusals.{refusal-refuses}
 use Rattle.wire.specs.Format.{headerBytes}
 use Rattle.lookup.specs.declared.file.Looked.{Looked}
 use Rattle.lookup.specs.declared.file.Looked.the-variants as look
@@ -21,7 +21,7 @@ use Rattle.lookup.specs.Lookup.{looked, lookupOf}
 use Rattle.lookup.proofs.FileLookup.{entry-small}
 use Rattle.compare.specs.declared.files.Compared.{Compared}
 use Rattle.compare.specs.declared.files.Compared.the-variants as comp
-use Rattle.compare.specs.Comparison.{FileAnswer, compared, comparisonOf}
+use Rattle.compare.specs.Comparison.{ComparisonAnswer, compared, comparisonOf}
 use Rattle.gateway.specs.Exports.{firstValue, lookupNumber, hasHeader, comparisonNumber, headerSize, headerPut, headerLent}
 
 -- ---- lookup
@@ -44,22 +44,22 @@ module _ (s : List ℕ) (h : Header) (l : Looked) (e : looked l ≡ lookupOf s h
 abbrev pub Exported : Type 0
 Exported = ℕ × List ℕ
 
-abbrev pub exported : FileAnswer → List ℕ → Exported
+abbrev pub exported : ComparisonAnswer → List ℕ → Exported
 exported a buffer = (comparisonNumber a, headerLent a buffer)
 
 module _ (s t buffer : List ℕ) (r : Compared) (e : compared r ≡ comparisonOf s t) where
-  pub says-yes : r ≡ comp.Refines → _≡_ {A = Exported} (0, buffer) (exported (comparisonOf s t) buffer)
-  says-yes q = ap (λ (a : FileAnswer). exported a buffer) (ap compared (sym q) ∙ e)
+  pub says-yes : r ≡ comp.Yes → _≡_ {A = Exported} (0, buffer) (exported (comparisonOf s t) buffer)
+  says-yes q = ap (λ (a : ComparisonAnswer). exported a buffer) (ap compared (sym q) ∙ e)
 
-  pub says-no : (h : Header) (after : List ℕ) → r ≡ comp.Exceeds h → after ≡ headerPut (numbers h) buffer → _≡_ {A = Exported} (1, after) (exported (comparisonOf s t) buffer)
-  says-no h after q p = ap (λ (b : List ℕ). (1, b)) p ∙ ap (λ (a : FileAnswer). exported a buffer) (ap compared (sym q) ∙ e)
+  pub says-no : (h : Header) (after : List ℕ) → r ≡ comp.No h → after ≡ headerPut (numbers h) buffer → _≡_ {A = Exported} (1, after) (exported (comparisonOf s t) buffer)
+  says-no h after q p = ap (λ (b : List ℕ). (1, b)) p ∙ ap (λ (a : ComparisonAnswer). exported a buffer) (ap compared (sym q) ∙ e)
 
   refused-as : (k n : ℕ) (x : Refusal) → n ≡ refusal x .number → record { file = k; answer = refusal x } ≡ comparisonOf s t
       → _≡_ {A = Exported} (k * 256 + n, buffer) (exported (comparisonOf s t) buffer)
   refused-as k n x m q =
       ap (λ (i : ℕ). (k * 256 + i, buffer)) m
       ∙ sym (ap (λ (b : Bool). (cond b (cond (hasHeader (refusal x .values)) 1 0) (k * 256 + refusal x .number), cond (b && hasHeader (refusal x .values)) (headerPut (refusal x .values) buffer) buffer)) (refusal-refuses x))
-      ∙ ap (λ (a : FileAnswer). exported a buffer) q
+      ∙ ap (λ (a : ComparisonAnswer). exported a buffer) q
 
   pub refuses-first : (x : Refusal) (n : ℕ) → r ≡ comp.First x → n ≡ refusal x .number → _≡_ {A = Exported} (256 + n, buffer) (exported (comparisonOf s t) buffer)
   refuses-first x n q m = refused-as 1 n x m (ap compared (sym q) ∙ e)

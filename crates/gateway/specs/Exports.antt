@@ -6,7 +6,7 @@ use lib.Dec.{leb}
 use lib.ListN.{length, drop}
 use Rattle.policy.specs.Refusals.{Answer, isAccepted}
 use Rattle.wire.specs.Format.{headerBytes}
-use Rattle.compare.specs.Comparison.{FileAnswer}
+use Rattle.compare.specs.Comparison.{ComparisonAnswer}
 
 -- the first value, or another number where there is none
 abbrev pub firstValue : List ℕ → ℕ → ℕ
@@ -23,7 +23,7 @@ hasHeader [] = false
 hasHeader (v ∷ vs) = true
 
 -- comparison: 0 for yes, 1 for no, or the file's number times 256 plus the refusal number
-abbrev pub comparisonNumber : FileAnswer → ℕ
+abbrev pub comparisonNumber : ComparisonAnswer → ℕ
 comparisonNumber r = cond (isAccepted (r .answer)) (cond (hasHeader (r .answer .values)) 1 0) (r .file * 256 + r .answer .number)
 
 -- how many bytes a header has
@@ -35,5 +35,5 @@ abbrev pub headerPut : List ℕ → List ℕ → List ℕ
 headerPut vs buffer = cond (leb headerSize (length buffer)) (headerBytes vs ++ drop headerSize buffer) buffer
 
 -- the lent buffer after a comparison: on 1 the header goes to its first 13 bytes, if it has 13; no other byte is written
-abbrev pub headerLent : FileAnswer → List ℕ → List ℕ
+abbrev pub headerLent : ComparisonAnswer → List ℕ → List ℕ
 headerLent r buffer = cond (isAccepted (r .answer) && hasHeader (r .answer .values)) (headerPut (r .answer .values) buffer) buffer

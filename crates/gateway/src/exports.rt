@@ -60,8 +60,8 @@ pub extern "C" fn policy_compare(first: &[u8], second: &[u8], buffer: &mut [u8])
         (comparisonNumber (comparisonOf (now (first .entry)) (now (second .entry))), headerLent (comparisonOf (now (first .entry)) (now (second .entry))) (now (buffer .entry))) ⌝ }
 {
     match compare_files(first, second) {
-        Compared::Refines => 0,
-        Compared::Exceeds(h) => {
+        Compared::Yes => 0,
+        Compared::No(h) => {
             put_header(buffer, h);
             1
         }

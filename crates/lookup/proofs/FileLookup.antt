@@ -13,12 +13,13 @@ use denote.Ref.{RefT, now}
 use Rattle.policy.specs.declared.header.Header.{Header}
 use Rattle.policy.specs.declared.entry.Entry.{Entry}
 use Rattle.policy.specs.declared.entry.Caught.{Caught}
-use Rattle.policy.specs.declared.entry.Caught.the-variants.{By, Uncaught as Nobody}
+use Rattle.policy.specs.declared.entry.Caught.the-variants.{By}
+use Rattle.policy.specs.declared.entry.Caught.the-variants as catch
 use Rattle.policy.specs.declared.refusal.Refusal.{Refusal}
 use Rattle.policy.specs.declared.refusal.Refusal.the-variants.{Missized, Version, Count, Crossed}
 use Rattle.policy.specs.Policy.{catcher}
 use Rattle.policy.specs.Refusals.{Answer, refusal, accepted, isAccepted, refuse}
-use Rattle.policy.proofs.Rows.{Pass, Refuse, refuse-refuses, refusal-refuses, refused-stays, accepted-passes, passes}
+use Rattle.policy.proofs.Refusals.{Pass, Refuse, refuse-refuses, refusal-refuses, refused-stays, accepted-passes, passes}
 use Rattle.policy.proofs.Policy.{caught-by}
 use Rattle.wire.specs.declared.check.Checked.{Checked}
 use Rattle.wire.specs.declared.check.Checked.the-variants.{Good, Refused}
@@ -59,7 +60,7 @@ module _ (s : List ℕ) (h : Header) (c : Checked) (e : checked c ≡ checksOf s
     pub caught-answer : (i : ℕ) → k ≡ By i → accepted (i ∷ []) ≡ lookupOf s h
     caught-answer i q = ap (λ (x : Caught). accepted (caughtValues x)) (sym q) ∙ good-answer
 
-    pub uncaught-answer : k ≡ Nobody → accepted [] ≡ lookupOf s h
+    pub uncaught-answer : k ≡ catch.Uncaught → accepted [] ≡ lookupOf s h
     uncaught-answer q = ap (λ (x : Caught). accepted (caughtValues x)) (sym q) ∙ good-answer
 
 -- ---- from the answer to the record
@@ -96,7 +97,7 @@ module _ (s : List ℕ) (h : Header) (l : Looked) (e : looked l ≡ lookupOf s h
     where
       go : (k : Caught) → catcher (listIn s) h ≡ k → i ∷ [] ≡ caughtValues k → k ≡ By i
       go (By j) u v = cc
-      go Nobody u v = absurd (let z : _≡_ {A = ℕ} 0 1 = cc in omega arith)
+      go catch.Uncaught u v = absurd (let z : _≡_ {A = ℕ} 0 1 = cc in omega arith)
 
   -- the record of the entry that was found lies in the file, and is the part
   pub record-fits : (i : ℕ) → l ≡ Found i → headSize + recordSize * i + recordSize ≤ length s
@@ -123,7 +124,7 @@ module _ (s : List ℕ) (h : Header) (l : Looked) (e : looked l ≡ lookupOf s h
     where
       go : (k : Caught) → [] ≡ caughtValues k → recordPart k ≡ noPart
       go (By j) v = absurd (let z : _≡_ {A = ℕ} 0 1 = cc in omega arith)
-      go Nobody v = refl
+      go catch.Uncaught v = refl
 
   pub refused-part : (x : Refusal) → l ≡ Turned x → noPart ≡ partFor s h
   refused-part x q =

@@ -15,7 +15,7 @@ use Rattle.policy.specs.Refusals.{accepted, isAccepted}
 use Rattle.policy.proofs.Bool.{not-true, is-false, clash}
 use Rattle.policy.proofs.Box.{in-proper}
 use Rattle.policy.proofs.Policy.{Catches}
-use Rattle.policy.proofs.Rows.{accepted-passes, passes}
+use Rattle.policy.proofs.Refusals.{accepted-passes, passes}
 use Rattle.wire.specs.declared.list.Entries.{Entries}
 use Rattle.wire.specs.Format.{listLimit, countIn, listIn}
 use Rattle.wire.specs.Checks.{fileChecks, checksOf}

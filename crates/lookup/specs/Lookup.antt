@@ -6,7 +6,8 @@ use lib.ListN.{take, drop}
 use denote.Ref.{RefT, now}
 use Rattle.policy.specs.declared.header.Header.{Header}
 use Rattle.policy.specs.declared.entry.Caught.{Caught}
-use Rattle.policy.specs.declared.entry.Caught.the-variants.{By, Uncaught as Nobody}
+use Rattle.policy.specs.declared.entry.Caught.the-variants.{By}
+use Rattle.policy.specs.declared.entry.Caught.the-variants as catch
 use Rattle.policy.specs.Policy.{catcher}
 use Rattle.policy.specs.Refusals.{Answer, refusal, accepted, isAccepted, firstOf}
 use Rattle.wire.specs.Format.{headSize, recordSize, listLimit, listIn}
@@ -17,7 +18,7 @@ use Rattle.lookup.specs.declared.file.Looked.the-variants.{Entry, Uncaug
 -- the values of an accepted answer: the number of the entry that catches the header, if one does
 abbrev pub caughtValues : Caught → List ℕ
 caughtValues (By i) = i ∷ []
-caughtValues Nobody = []
+caughtValues catch.Uncaught = []
 
 -- the companion call's answer in 01's terms
 abbrev pub looked : Looked → Answer
@@ -41,7 +42,7 @@ noPart = record { start = 0; size = 0 }
 -- the catching record's part of a file
 abbrev pub recordPart : Caught → Part
 recordPart (By i) = record { start = headSize + recordSize * i; size = recordSize }
-recordPart Nobody = noPart
+recordPart catch.Uncaught = noPart
 
 -- the part that lookup hands back, also where the file is refused
 abbrev pub partFor : List ℕ → Header → Part

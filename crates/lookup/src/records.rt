@@ -2,9 +2,9 @@
 use policy::entry::Caught;
 use policy::header::Header;
 use wire::format::RECORD_SIZE;
-use wire::holds::within1;
-use wire::holds::within2;
-use wire::holds::within4;
+use wire::ranges::within1;
+use wire::ranges::within2;
+use wire::ranges::within4;
 ghost use mathlib.Core.Path.{_≡_};
 ghost use Prim.Native.Nat.{_+_, _*_, _≤_, _<_};
 ghost use lib.ListN.{length};

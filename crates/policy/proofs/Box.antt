@@ -13,7 +13,7 @@ use Rattle.policy.specs.Box.{Range, range, within, inside, proper, same,
 use Rattle.policy.specs.Cut.{empty, below, above, cut}
 use Rattle.policy.proofs.Bool.{case, clash, is-false, and-intro, and-left, and-right, same-truth}
 use Rattle.policy.proofs.Order.{pre-cases}
-use Rattle.policy.proofs.Branches.{ends-are, paired}
+use Rattle.policy.proofs.Conjunctions.{ends-are, paired}
 
 -- some element of the list has the property
 abbrev pub any {ℓ κ} : {A : Type ℓ} {X : Type κ} → (A → X → Bool) → List A → X → Bool

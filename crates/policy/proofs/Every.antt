@@ -8,7 +8,7 @@ use lib.Dec.{leb, ltb, eqb}
 use borrow.Author.Tests.{leb-true, leb-false, eqb-true, eq-eqb, ne-eqb}
 use Rattle.policy.specs.Row.{precedes}
 use Rattle.policy.specs.Box.{Range, within, common, inside, proper, same, meet}
-use Rattle.policy.proofs.Branches.{differs, agrees, paired}
+use Rattle.policy.proofs.Conjunctions.{differs, agrees, paired}
 use Rattle.policy.specs.Rows.{rowOf}
 
 -- every number below k passes

@@ -5,8 +5,8 @@ pub mod Box
 pub mod Branch
 pub mod ActionSets
 pub mod Policy
-pub mod Branches
-pub mod Rows
+pub mod Conjunctions
+pub mod Refusals
 pub mod Every
 pub mod Loops
 pub mod Numbers

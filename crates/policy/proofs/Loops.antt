@@ -14,7 +14,7 @@ use Rattle.policy.specs.Row.{precedes}
 use Rattle.policy.specs.Box.{Range, within, common, inside, proper, same, meet}
 use Rattle.policy.specs.Header.{arity}
 use Rattle.policy.specs.Rows.{rowOf, field, boxOf, numbersIn}
-use Rattle.policy.proofs.Branches.{ends-are}
+use Rattle.policy.proofs.Conjunctions.{ends-are}
 use Rattle.policy.proofs.Every.{every, Passed, every-passed, one-fails, row-ext, inside-every, proper-every, same-every, meet-fields, first-decides, none-decides}
 
 -- one field more has passed
@@ -60,12 +60,12 @@ unfolding boxOf
 same-is a b = same-every arity (field a 0) (field b 0)
 
 -- a number lies in a box, and two numbers agree, in a field
-abbrev pub holdsAt : List ℕ → List ℕ → ℕ → Bool
-holdsAt b x j = within (field b 0 j) (getD x j 0)
+abbrev pub insideAt : List ℕ → List ℕ → ℕ → Bool
+insideAt b x j = within (field b 0 j) (getD x j 0)
 
-pub holds-is : (b x : List ℕ) → every arity (holdsAt b x) ≡ inside arity (boxOf b 0) (numbersIn x)
+pub inside-is : (b x : List ℕ) → every arity (insideAt b x) ≡ inside arity (boxOf b 0) (numbersIn x)
 unfolding boxOf
-holds-is b x = inside-every arity (field b 0) (λ j. getD x j 0)
+inside-is b x = inside-every arity (field b 0) (λ j. getD x j 0)
 
 abbrev pub agreeAt : List ℕ → List ℕ → ℕ → Bool
 agreeAt x y j = eqb (getD x j 0) (getD y j 0)
@@ -89,20 +89,20 @@ module _ (s : List ℕ) (at : ℕ) (b : List ℕ) (f : ℕ) where
 module _ (b x : List ℕ) (f : ℕ) where
   module _ (l : ℕ) (p : l ≡ field b 0 f .low) where
     pub number-below : f < arity → getD x f 0 < l → false ≡ inside arity (boxOf b 0) (numbersIn x)
-    number-below m n = one-fails arity f (holdsAt b x) m (ap (_&& leb (getD x f 0) (field b 0 f .high)) (ap (λ (k : ℕ). leb k (getD x f 0)) (sym p) ∙ lt-leb l (getD x f 0) n)) ∙ holds-is b x
+    number-below m n = one-fails arity f (insideAt b x) m (ap (_&& leb (getD x f 0) (field b 0 f .high)) (ap (λ (k : ℕ). leb k (getD x f 0)) (sym p) ∙ lt-leb l (getD x f 0) n)) ∙ inside-is b x
 
     module _ (h : ℕ) (q : h ≡ field b 0 f .high) where
-      here : (t : Bool) → l ≤ getD x f 0 → leb (getD x f 0) h ≡ t → holdsAt b x f ≡ t
+      here : (t : Bool) → l ≤ getD x f 0 → leb (getD x f 0) h ≡ t → insideAt b x f ≡ t
       here t n e = ap₂ _&&_ (ap (λ (k : ℕ). leb k (getD x f 0)) (sym p) ∙ le-leb l (getD x f 0) n) (ap (leb (getD x f 0)) (sym q) ∙ e)
 
       pub number-above : f < arity → l ≤ getD x f 0 → h < getD x f 0 → false ≡ inside arity (boxOf b 0) (numbersIn x)
-      number-above m n k = one-fails arity f (holdsAt b x) m (here false n (lt-leb (getD x f 0) h k)) ∙ holds-is b x
+      number-above m n k = one-fails arity f (insideAt b x) m (here false n (lt-leb (getD x f 0) h k)) ∙ inside-is b x
 
-      pub number-more : l ≤ getD x f 0 → getD x f 0 ≤ h → Passed (holdsAt b x) f → Passed (holdsAt b x) (f + 1)
-      number-more n k c = passed-more (holdsAt b x) f c (here true n (le-leb (getD x f 0) h k))
+      pub number-more : l ≤ getD x f 0 → getD x f 0 ≤ h → Passed (insideAt b x) f → Passed (insideAt b x) (f + 1)
+      number-more n k c = passed-more (insideAt b x) f c (here true n (le-leb (getD x f 0) h k))
 
-  pub numbers-lie : arity ≤ f → Passed (holdsAt b x) f → true ≡ inside arity (boxOf b 0) (numbersIn x)
-  numbers-lie l c = all-passed (holdsAt b x) arity f l c ∙ holds-is b x
+  pub numbers-lie : arity ≤ f → Passed (insideAt b x) f → true ≡ inside arity (boxOf b 0) (numbersIn x)
+  numbers-lie l c = all-passed (insideAt b x) arity f l c ∙ inside-is b x
 
 module _ (x y : List ℕ) (f : ℕ) where
   pub first-differs : f < arity → (getD x f 0 ≡ getD y f 0 → ⊥) → Passed (agreeAt x y) f → ltb (getD x f 0) (getD y f 0) ≡ precedes arity (numbersIn x) (numbersIn y)

@@ -15,7 +15,7 @@ use Rattle.policy.specs.Header.{arity, before}
 use Rattle.policy.specs.Entry.{entry, selector, matches}
 use Rattle.policy.specs.Refusals.{numbers}
 use Rattle.policy.specs.Rows.{sides, rowSize, field, boxOf, numbersIn, rowAt, rowsFrom, rowsIn, numbersOf, allNumbers}
-use Rattle.policy.proofs.Branches.{ends-are}
+use Rattle.policy.proofs.Conjunctions.{ends-are}
 use Rattle.policy.proofs.Every.{row-ext}
 
 -- the rows of numbers after other numbers

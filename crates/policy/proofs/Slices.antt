@@ -11,7 +11,7 @@ use Rattle.policy.specs.declared.entry.Entry.{Entry}
 use Rattle.policy.specs.Header.{arity}
 use Rattle.policy.specs.Entry.{entry}
 use Rattle.policy.specs.Rows.{sides, rowSize, field, boxOf, rowAt, rowsFrom}
-use Rattle.policy.proofs.Branches.{ends-are}
+use Rattle.policy.proofs.Conjunctions.{ends-are}
 use Rattle.policy.proofs.Every.{row-ext}
 
 pub length-rows : (s : List ℕ) (at n : ℕ) → length (rowsFrom s at n) ≡ n

@@ -42,14 +42,14 @@ abbrev pub missed : List Entry → Header → Bool
 missed p h = not (caught p h)
 
 -- every action of the first is in the second
-abbrev pub part : Allowed → Allowed → Bool
-part (actions a) (actions b) = subset a b
-part (actions a) uncaught = false
-part uncaught b = true
+abbrev pub atMost : Allowed → Allowed → Bool
+atMost (actions a) (actions b) = subset a b
+atMost (actions a) uncaught = false
+atMost uncaught b = true
 
 -- p allows the header an action that q does not
 abbrev pub exceeds : List Entry → List Entry → Header → Bool
-exceeds p q h = not (part (allowed p h) (allowed q h))
+exceeds p q h = not (atMost (allowed p h) (allowed q h))
 
 -- Definition 1's condition on a policy: every header is caught (01: the list is covering)
 abbrev pub Covering : Headers → List Entry → Type 0
@@ -61,7 +61,7 @@ Equivalent hs p q = (h : Header) → among hs h ≡ true → allowed p h ≡ all
 
 -- Definition 6: p allows every header a subset of what q allows it
 abbrev pub Refines : Headers → List Entry → List Entry → Type 0
-Refines hs p q = (h : Header) → among hs h ≡ true → part (allowed p h) (allowed q h) ≡ true
+Refines hs p q = (h : Header) → among hs h ≡ true → atMost (allowed p h) (allowed q h) ≡ true
 
 -- Definition 7: no header is left without an action
 abbrev pub Implementable : Headers → List Entry → Type 0

@@ -3,7 +3,7 @@ use crate::header::Header;
 use crate::header::numbers_of;
 use crate::sides::ROW;
 use crate::sides::SIDES;
-use crate::sides::holds;
+use crate::sides::is_inside;
 use crate::sides::is_proper;
 use crate::sides::row_sides;
 ghost use mathlib.Core.Path.{_≡_};
@@ -65,7 +65,7 @@ pub fn matches_header(e: Entry, h: Header) -> bool
 {
     let sides = sides_of(e);
     let numbers = numbers_of(h);
-    holds(&sides, &numbers)
+    is_inside(&sides, &numbers)
 }
 
 // Whether a range of e has its low above its high.

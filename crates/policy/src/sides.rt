@@ -102,7 +102,7 @@ pub fn precede(x: &[u32; FIELDS], y: &[u32; FIELDS]) -> bool
 }
 
 // Whether the numbers x lie in b. They are looked at as far as the first that does not.
-pub fn holds(b: &[u32; SIDES], x: &[u32; FIELDS]) -> bool
+pub fn is_inside(b: &[u32; SIDES], x: &[u32; FIELDS]) -> bool
     ensures { λ t. ⌜ t ≡ inside arity (boxOf (now (b .entry)) 0) (numbersIn (now (x .entry))) ⌝ }
 {
     let mut f: usize = 0;

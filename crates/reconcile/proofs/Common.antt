@@ -11,7 +11,7 @@ use Rattle.policy.specs.declared.header.Header.{Header}
 use Rattle.policy.specs.declared.entry.Entry.{Entry}
 use Rattle.policy.specs.Header.{Headers, among}
 use Rattle.policy.specs.Actions.{has}
-use Rattle.policy.specs.Policy.{Allowed, actions, uncaught, allowed, isCaught, part, Refines}
+use Rattle.policy.specs.Policy.{Allowed, actions, uncaught, allowed, isCaught, atMost, Refines}
 use Rattle.policy.proofs.Bool.{clash, and-intro, and-left, and-right}
 use Rattle.policy.proofs.ActionSets.{has-both, has-none, none-empty, part-both, part-first, part-second}
 use Rattle.reconcile.specs.Crossproduct.{In, Reconciles}
@@ -34,64 +34,64 @@ same-by a b e = ap (same a) (sym e) ∙ same-self a
 
 -- ---- parts
 
-part-self : (a : Allowed) → part a a ≡ true
-part-self (actions a) = eq-eqb (bitAnd a a) a (and-self a)
-part-self uncaught = refl
+at-most-self : (a : Allowed) → atMost a a ≡ true
+at-most-self (actions a) = eq-eqb (bitAnd a a) a (and-self a)
+at-most-self uncaught = refl
 
-part-of-both : (a b c : Allowed) → part a (inBoth b c) ≡ true → (part a b && part a c) ≡ true
-part-of-both (actions a) (actions b) (actions c) e =
+at-most-of-both : (a b c : Allowed) → atMost a (inBoth b c) ≡ true → (atMost a b && atMost a c) ≡ true
+at-most-of-both (actions a) (actions b) (actions c) e =
     let f = eqb-true (bitAnd a (bitAnd b c)) a e in
     and-intro (eq-eqb (bitAnd a b) a (part-first a b c f)) (eq-eqb (bitAnd a c) a (part-second a b c f))
-part-of-both (actions a) (actions b) uncaught e = clash e refl
-part-of-both (actions a) uncaught c e = clash e refl
-part-of-both uncaught b c e = refl
+at-most-of-both (actions a) (actions b) uncaught e = clash e refl
+at-most-of-both (actions a) uncaught c e = clash e refl
+at-most-of-both uncaught b c e = refl
 
-part-in-both : (a b c : Allowed) → part a b ≡ true → part a c ≡ true → part a (inBoth b c) ≡ true
-part-in-both (actions a) (actions b) (actions c) p q =
+at-most-in-both : (a b c : Allowed) → atMost a b ≡ true → atMost a c ≡ true → atMost a (inBoth b c) ≡ true
+at-most-in-both (actions a) (actions b) (actions c) p q =
     eq-eqb (bitAnd a (bitAnd b c)) a (part-both a b c (eqb-true (bitAnd a b) a p) (eqb-true (bitAnd a c) a q))
-part-in-both (actions a) (actions b) uncaught p q = q
-part-in-both (actions a) uncaught c p q = p
-part-in-both uncaught b c p q = refl
+at-most-in-both (actions a) (actions b) uncaught p q = q
+at-most-in-both (actions a) uncaught c p q = p
+at-most-in-both uncaught b c p q = refl
 
 module _ (x : Allowed) (h : Header) where
-  with-first : (a : Allowed) (ps : List (List Entry)) → part x (commonWith a ps h) ≡ true → part x a ≡ true
+  with-first : (a : Allowed) (ps : List (List Entry)) → atMost x (commonWith a ps h) ≡ true → atMost x a ≡ true
   with-first a [] e = e
   with-first a (p ∷ ps) e =
-      and-left (part x a) (part x (allowed p h)) (part-of-both x a (allowed p h) (with-first (inBoth a (allowed p h)) ps e))
+      and-left (atMost x a) (atMost x (allowed p h)) (at-most-of-both x a (allowed p h) (with-first (inBoth a (allowed p h)) ps e))
 
-  with-each : (a : Allowed) (ps : List (List Entry)) (q : List Entry) → In q ps → part x (commonWith a ps h) ≡ true → part x (allowed q h) ≡ true
+  with-each : (a : Allowed) (ps : List (List Entry)) (q : List Entry) → In q ps → atMost x (commonWith a ps h) ≡ true → atMost x (allowed q h) ≡ true
   with-each a [] q i e = absurd i
   with-each a (p ∷ ps) q (inl i) e =
-      subst (λ (l : List Entry). part x (allowed l h) ≡ true) (sym i)
-      (and-right (part x a) (part x (allowed p h)) (part-of-both x a (allowed p h) (with-first (inBoth a (allowed p h)) ps e)))
+      subst (λ (l : List Entry). atMost x (allowed l h) ≡ true) (sym i)
+      (and-right (atMost x a) (atMost x (allowed p h)) (at-most-of-both x a (allowed p h) (with-first (inBoth a (allowed p h)) ps e)))
   with-each a (p ∷ ps) q (inr i) e = with-each (inBoth a (allowed p h)) ps q i e
 
-  with-all : (a : Allowed) (ps : List (List Entry)) → part x a ≡ true → ((q : List Entry) → In q ps → part x (allowed q h) ≡ true)
-      → part x (commonWith a ps h) ≡ true
+  with-all : (a : Allowed) (ps : List (List Entry)) → atMost x a ≡ true → ((q : List Entry) → In q ps → atMost x (allowed q h) ≡ true)
+      → atMost x (commonWith a ps h) ≡ true
   with-all a [] e f = e
-  with-all a (p ∷ ps) e f = with-all (inBoth a (allowed p h)) ps (part-in-both x a (allowed p h) e (f p (inl refl))) (λ q i. f q (inr i))
+  with-all a (p ∷ ps) e f = with-all (inBoth a (allowed p h)) ps (at-most-in-both x a (allowed p h) e (f p (inl refl))) (λ q i. f q (inr i))
 
   -- a part of the common actions is a part of what each list allows
-  pub part-each : (ps : List (List Entry)) (q : List Entry) → In q ps → part x (commonActions ps h) ≡ true → part x (allowed q h) ≡ true
-  part-each [] q i e = absurd i
-  part-each (p ∷ ps) q (inl i) e = subst (λ (l : List Entry). part x (allowed l h) ≡ true) (sym i) (with-first (allowed p h) ps e)
-  part-each (p ∷ ps) q (inr i) e = with-each (allowed p h) ps q i e
+  pub at-most-each : (ps : List (List Entry)) (q : List Entry) → In q ps → atMost x (commonActions ps h) ≡ true → atMost x (allowed q h) ≡ true
+  at-most-each [] q i e = absurd i
+  at-most-each (p ∷ ps) q (inl i) e = subst (λ (l : List Entry). atMost x (allowed l h) ≡ true) (sym i) (with-first (allowed p h) ps e)
+  at-most-each (p ∷ ps) q (inr i) e = with-each (allowed p h) ps q i e
 
   -- and the other way round
-  pub part-all : (p : List Entry) (ps : List (List Entry)) → ((q : List Entry) → In q (p ∷ ps) → part x (allowed q h) ≡ true)
-      → part x (commonActions (p ∷ ps) h) ≡ true
-  part-all p ps f = with-all (allowed p h) ps (f p (inl refl)) (λ q i. f q (inr i))
+  pub at-most-all : (p : List Entry) (ps : List (List Entry)) → ((q : List Entry) → In q (p ∷ ps) → atMost x (allowed q h) ≡ true)
+      → atMost x (commonActions (p ∷ ps) h) ≡ true
+  at-most-all p ps f = with-all (allowed p h) ps (f p (inl refl)) (λ q i. f q (inr i))
 
 -- a list that allows each header the common actions refines all the lists (Theorem 26), and every list that refines them all refines it (27)
 module _ (hs : Headers) (ps : List (List Entry)) (r : List Entry) (e : (h : Header) → among hs h ≡ true → allowed r h ≡ commonActions ps h) where
   pub common-reconciles : Reconciles hs ps r
   common-reconciles q i h a =
-      part-each (allowed r h) h ps q i (subst (λ (x : Allowed). part (allowed r h) x ≡ true) (e h a) (part-self (allowed r h)))
+      at-most-each (allowed r h) h ps q i (subst (λ (x : Allowed). atMost (allowed r h) x ≡ true) (e h a) (at-most-self (allowed r h)))
 
 pub common-widest : (hs : Headers) (p : List Entry) (ps : List (List Entry)) (r : List Entry)
     → ((h : Header) → among hs h ≡ true → allowed r h ≡ commonActions (p ∷ ps) h) → (q : List Entry) → Reconciles hs (p ∷ ps) q → Refines hs q r
 common-widest hs p ps r e q f h a =
-    subst (λ (x : Allowed). part (allowed q h) x ≡ true) (sym (e h a)) (part-all (allowed q h) h p ps λ l i. f l i h a)
+    subst (λ (x : Allowed). atMost (allowed q h) x ≡ true) (sym (e h a)) (at-most-all (allowed q h) h p ps λ l i. f l i h a)
 
 -- ---- where all the lists catch the header
 

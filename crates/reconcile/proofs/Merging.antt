@@ -12,6 +12,7 @@ use Rattle.policy.specs.declared.header.Header.{Header}
 use Rattle.policy.specs.declared.header.Found.{Found}
 use Rattle.policy.specs.declared.header.Found.the-variants.{At, Nothing}
 use Rattle.policy.specs.declared.entry.Entry.{Entry}
+use Rattle.policy.specs.declared.refusal.Refusal.the-variants.{Bare, Crowded, Conflict}
 use Rattle.policy.specs.Header.{Headers, among, before}
 use Rattle.policy.specs.Least.{least}
 use Rattle.policy.specs.Policy.{Allowed, allowed, isCaught, Covering, Refines, Implementable}
@@ -19,7 +20,7 @@ use Rattle.policy.proofs.Bool.{clash}
 use Rattle.policy.proofs.Least.{agree, least-at, at-tells, none-tells}
 use Rattle.wire.specs.Format.{listLimit}
 use Rattle.reconcile.specs.Crossproduct.{In, Reconciles}
-use Rattle.reconcile.specs.Rules.{noHeader, same, isEmpty, inBoth, commonWith, commonActions, permits, allPermit, cross, dropEmpty, trimmed, Working, list, crowded, limited, next, nextAll, working, hasEmpty, lacking, conflictOf, needless, struckFrom, struck, Merging, bare, overfull, conflict, merged, finished, mergeOf}
+use Rattle.reconcile.specs.Rules.{noHeader, same, isEmpty, inBoth, commonWith, commonActions, permits, allPermit, cross, dropEmpty, trimmed, Working, list, crowded, limited, next, nextAll, working, hasEmpty, lacking, conflictOf, needless, struckFrom, struck, Merging, refused, merged, finished, mergeOf}
 use Rattle.reconcile.proofs.Decide.{Witness, witness, noHeader-agree}
 use Rattle.reconcile.proofs.Common.{common-reconciles, common-widest, common-caught, common-permits}
 use Rattle.reconcile.proofs.Crossing.{cross-is}
@@ -110,25 +111,35 @@ module _ (hs : Headers) where
       → least hs (λ h. isEmpty (allowed w h)) ≡ conflictOf hs (p ∷ ps)
   rule3-least p ps w e = agree hs (λ h. isEmpty (allowed w h)) (lacking (p ∷ ps)) λ h a. ap isEmpty (working-allows p ps w e h a)
 
+-- ---- what a merging can be
+
+pub merging-cases : (hs : Headers) (ps : List (List Entry)) (P : Merging → Type 0) → P (refused Bare) → P (refused Crowded)
+    → ((h : Header) → P (refused (Conflict h))) → ((m : List Entry) → P (merged m)) → P (mergeOf hs ps)
+merging-cases hs [] P b c k m = b
+merging-cases hs (p ∷ ps) P b c k m = go (working hs p ps) (conflictOf hs (p ∷ ps))
+  where
+    go : (w : Working) (f : Found) → P (finished hs w f)
+    go crowded f = c
+    go (list w) (At h) = k h
+    go (list w) Nothing = m (struck hs w)
+
 -- ---- an accepted merging
 
 pub record Merges (hs : Headers) (p : List Entry) (ps : List (List Entry)) (m : List Entry) : Type 0 where
   pub work : List Entry
   pub worked : working hs p ps ≡ list work
-  pub harmony : conflictOf hs (p ∷ ps) ≡ Nothing
+  pub no-conflict : conflictOf hs (p ∷ ps) ≡ Nothing
   pub left : m ≡ struck hs work
 
 abbrev unmerged : Merging → List Entry
+unmerged (refused r) = []
 unmerged (merged m) = m
-unmerged bare = []
-unmerged overfull = []
-unmerged (conflict h) = []
 
 pub merges : (hs : Headers) (p : List Entry) (ps : List (List Entry)) (m : List Entry) → mergeOf hs (p ∷ ps) ≡ merged m → Merges hs p ps m
 merges hs p ps m e = go (working hs p ps) refl (conflictOf hs (p ∷ ps)) refl e
   where
     go : (w : Working) → working hs p ps ≡ w → (c : Found) → conflictOf hs (p ∷ ps) ≡ c → finished hs w c ≡ merged m → Merges hs p ps m
-    go (list w) u Nothing v e = record { work = w; worked = u; harmony = v; left = sym (ap unmerged e) }
+    go (list w) u Nothing v e = record { work = w; worked = u; no-conflict = v; left = sym (ap unmerged e) }
     go (list w) u (At h) v e = absurd (let z : _≡_ {A = ℕ} 0 1 = cc in omega arith)
     go crowded u c v e = absurd (let z : _≡_ {A = ℕ} 0 1 = cc in omega arith)
 
@@ -152,9 +163,9 @@ module _ (hs : Headers) (p : List Entry) (ps : List (List Entry)) (m : List Entr
   merged-widest = common-widest hs p ps m merged-allows
 
   -- without any one entry some header is uncaught, or allowed a different set
-  pub merged-tight : (front : List Entry) (d : Entry) (back : List Entry) → m ≡ front ++ d ∷ back
+  pub merged-irredundant : (front : List Entry) (d : Entry) (back : List Entry) → m ≡ front ++ d ∷ back
       → Witness hs (λ h. not (same (allowed (front ++ back) h) (allowed m h)))
-  merged-tight front d back q =
+  merged-irredundant front d back q =
       let r = merges hs p ps m e in
       subst (λ (l : List Entry). Witness hs (λ h. not (same (allowed (front ++ back) h) (allowed l h)))) (sym q)
       (witness hs (λ h. not (same (allowed (front ++ back) h) (allowed (front ++ d ∷ back) h)))
@@ -168,7 +179,7 @@ module _ (hs : Headers) (p : List Entry) (ps : List (List Entry)) (m : List Entr
   pub merged-acts : Implementable hs m
   merged-acts h a q =
       let r = merges hs p ps m e in
-      clash (ap isEmpty (sym (merged-allows h a) ∙ q)) (none-tells hs (lacking (p ∷ ps)) (r .harmony) h a)
+      clash (ap isEmpty (sym (merged-allows h a) ∙ q)) (none-tells hs (lacking (p ∷ ps)) (r .no-conflict) h a)
 
   -- it has no more entries than a file may have
   pub merged-few : length m ≤ listLimit
@@ -190,35 +201,35 @@ module _ (hs : Headers) (p : List Entry) (ps : List (List Entry)) (m : List Entr
 -- ---- conflict: exactly where the working list is not crowded and some header has no common action, and the least is named
 
 pub record Conflicts (hs : Headers) (p : List Entry) (ps : List (List Entry)) (h : Header) : Type 0 where
-  pub roomy : working hs p ps ≡ crowded → ⊥
+  pub within : working hs p ps ≡ crowded → ⊥
   pub member : among hs h ≡ true
   pub empty : lacking (p ∷ ps) h ≡ true
   pub earliest : (g : Header) → among hs g ≡ true → before g h ≡ true → lacking (p ∷ ps) g ≡ false
 
 module _ (hs : Headers) (p : List Entry) (ps : List (List Entry)) where
-  pub conflict-tells : (h : Header) → mergeOf hs (p ∷ ps) ≡ conflict h → Conflicts hs p ps h
+  pub conflict-tells : (h : Header) → mergeOf hs (p ∷ ps) ≡ refused (Conflict h) → Conflicts hs p ps h
   conflict-tells h e = go (working hs p ps) refl (conflictOf hs (p ∷ ps)) refl e
     where
-      go : (w : Working) → working hs p ps ≡ w → (c : Found) → conflictOf hs (p ∷ ps) ≡ c → finished hs w c ≡ conflict h → Conflicts hs p ps h
+      go : (w : Working) → working hs p ps ≡ w → (c : Found) → conflictOf hs (p ∷ ps) ≡ c → finished hs w c ≡ refused (Conflict h) → Conflicts hs p ps h
       go crowded u c i e = absurd (let z : _≡_ {A = ℕ} 0 1 = cc in omega arith)
       go (list w) u Nothing i e = absurd (let z : _≡_ {A = ℕ} 0 1 = cc in omega arith)
       go (list w) u (At g) i e =
           let q : g ≡ h = cc in
           let t = at-tells hs (lacking (p ∷ ps)) h (i ∙ ap At q) in
-          record { roomy = λ r. crowded-list (sym r ∙ u); member = t .0; empty = t .1; earliest = t .2 }
+          record { within = λ r. crowded-list (sym r ∙ u); member = t .0; empty = t .1; earliest = t .2 }
 
-  pub conflict-made : (h : Header) → Conflicts hs p ps h → mergeOf hs (p ∷ ps) ≡ conflict h
-  conflict-made h c = ap (finished hs (working hs p ps)) (least-at hs (lacking (p ∷ ps)) h (c .member) (c .empty) (c .earliest)) ∙ go (working hs p ps) (c .roomy)
+  pub conflict-made : (h : Header) → Conflicts hs p ps h → mergeOf hs (p ∷ ps) ≡ refused (Conflict h)
+  conflict-made h c = ap (finished hs (working hs p ps)) (least-at hs (lacking (p ∷ ps)) h (c .member) (c .empty) (c .earliest)) ∙ go (working hs p ps) (c .within)
     where
-      go : (w : Working) → (w ≡ crowded → ⊥) → finished hs w (At h) ≡ conflict h
+      go : (w : Working) → (w ≡ crowded → ⊥) → finished hs w (At h) ≡ refused (Conflict h)
       go (list w) r = refl
       go crowded r = absurd (r refl)
 
   -- a header without a common action makes a conflict, at it or at a lesser one
-  pub conflict-some : (h : Header) → (working hs p ps ≡ crowded → ⊥) → among hs h ≡ true → lacking (p ∷ ps) h ≡ true → (g : Header) × (mergeOf hs (p ∷ ps) ≡ conflict g)
+  pub conflict-some : (h : Header) → (working hs p ps ≡ crowded → ⊥) → among hs h ≡ true → lacking (p ∷ ps) h ≡ true → (g : Header) × (mergeOf hs (p ∷ ps) ≡ refused (Conflict g))
   conflict-some h r a x = go (working hs p ps) refl (conflictOf hs (p ∷ ps)) refl
     where
-      go : (w : Working) → working hs p ps ≡ w → (c : Found) → conflictOf hs (p ∷ ps) ≡ c → (g : Header) × (finished hs w c ≡ conflict g)
+      go : (w : Working) → working hs p ps ≡ w → (c : Found) → conflictOf hs (p ∷ ps) ≡ c → (g : Header) × (finished hs w c ≡ refused (Conflict g))
       go crowded u c i = absurd (r u)
       go (list w) u (At g) i = (g, refl)
       go (list w) u Nothing i = clash x (none-tells hs (lacking (p ∷ ps)) i h a)

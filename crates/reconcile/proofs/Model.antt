@@ -7,13 +7,14 @@ use Rattle.policy.specs.declared.header.Found.{Found}
 use Rattle.policy.specs.declared.header.Found.the-variants.{At, Nothing}
 use Rattle.policy.specs.declared.entry.Entry.{Entry}
 use Rattle.policy.specs.Header.{Headers, everything}
+use Rattle.policy.specs.declared.refusal.Refusal.the-variants.{Bare, Crowded, Conflict}
 use Rattle.policy.specs.Least.{least, leastIn}
 use Rattle.policy.specs.Entry.{selector, matches}
 use Rattle.policy.specs.Policy.{allowed, missed}
 use Rattle.region.specs.declared.treated.Sets.the-variants.{Same, Other}
 use Rattle.region.specs.Treated.{wanted}
 use Rattle.region.proofs.Model.{seek, seek-is, sought, asked, never, answers-judged, answers-behind, answers-missed}
-use Rattle.reconcile.specs.Rules.{isNothing, noHeader, isEmpty, cross, shadowed, trimmed, Working, list, crowded, limited, next, nextAll, working, conflictOf, needless, strike, struckFrom, Merging, bare, overfull, conflict, merged, settled, finished, mergeOf}
+use Rattle.reconcile.specs.Rules.{isNothing, noHeader, isEmpty, cross, shadowed, trimmed, Working, list, crowded, limited, next, nextAll, working, conflictOf, needless, strike, struckFrom, Merging, refused, merged, settled, finished, mergeOf}
 use Rattle.reconcile.proofs.Judged.{differs-judged, empty-judged}
 use Rattle.reconcile.proofs.Pass.{keptFrom, kept-trims}
 use Rattle.reconcile.proofs.Striking.{needless-is}
@@ -52,15 +53,15 @@ nextAllBy hs w [] = w
 nextAllBy hs w (p ∷ ps) = nextAllBy hs (nextBy hs w p) ps
 
 abbrev settledBy : Headers → Found → List Entry → Merging
-settledBy hs (At h) w = conflict h
+settledBy hs (At h) w = refused (Conflict h)
 settledBy hs Nothing w = merged (struckBy hs [] w)
 
 abbrev finishedBy : Headers → Working → Merging
 finishedBy hs (list w) = settledBy hs (emptyBy hs w) w
-finishedBy hs crowded = overfull
+finishedBy hs crowded = refused Crowded
 
 abbrev pub mergeBy : Headers → List (List Entry) → Merging
-mergeBy hs [] = bare
+mergeBy hs [] = refused Bare
 mergeBy hs (p ∷ ps) = finishedBy hs (nextAllBy hs (limited (keptBy hs [] p)) ps)
 
 -- ---- the searches are the rules' tests

@@ -13,30 +13,26 @@ use Rattle.wire.specs.Answers.{ifAccepted}
 use Rattle.wire.specs.Writing.{placed, tooNarrow}
 use Rattle.reconcile.specs.declared.ending.Merged.{Merged}
 use Rattle.reconcile.specs.declared.ending.Merged.the-variants.{Done, Refused}
-use Rattle.reconcile.specs.Rules.{Working, list, crowded, working, conflictOf, struck, Merging, bare, overfull, conflict, merged}
+use Rattle.reconcile.specs.Rules.{Working, list, crowded, working, conflictOf, struck, Merging, refused, merged}
 
 -- the answer: 8, 9, 10 or 11, or the file's entry count and length
 abbrev pub answerOf : Merging → List ℕ → Answer
-answerOf bare buffer = refusal Bare
-answerOf overfull buffer = refusal Crowded
-answerOf (conflict h) buffer = refusal (Conflict h)
+answerOf (refused r) buffer = refusal r
 answerOf (merged p) buffer = firstOf (tooNarrow (length p) buffer ∷ []) (accepted (length p ∷ fileSize (length p) ∷ []))
 
 -- the file of the merged list
 abbrev pub fileFor : Merging → List ℕ
+fileFor (refused r) = []
 fileFor (merged p) = fileOf p
-fileFor bare = []
-fileFor overfull = []
-fileFor (conflict h) = []
 
 -- the answer, and the buffer's final contents: a refusal leaves it as it was
-abbrev pub mergingOf : Merging → List ℕ → Answer × List ℕ
-mergingOf m buffer = (answerOf m buffer, ifAccepted (answerOf m buffer) (placed (fileFor m) buffer) buffer)
+abbrev pub endingOf : Merging → List ℕ → Answer × List ℕ
+endingOf m buffer = (answerOf m buffer, ifAccepted (answerOf m buffer) (placed (fileFor m) buffer) buffer)
 
 -- the same of the code's answer
-abbrev pub merging : Merged → List ℕ → Answer × List ℕ
-merging (Done n l) buffer = (accepted (n ∷ l ∷ []), buffer)
-merging (Refused r) buffer = (refusal r, buffer)
+abbrev pub ending : Merged → List ℕ → Answer × List ℕ
+ending (Done n l) buffer = (accepted (n ∷ l ∷ []), buffer)
+ending (Refused r) buffer = (refusal r, buffer)
 
 -- ---- the answer as 01 orders the checks
 

@@ -9,6 +9,8 @@ use Rattle.policy.specs.declared.header.Header.{Header}
 use Rattle.policy.specs.declared.header.Found.{Found}
 use Rattle.policy.specs.declared.header.Found.the-variants.{At, Nothing}
 use Rattle.policy.specs.declared.entry.Entry.{Entry}
+use Rattle.policy.specs.declared.refusal.Refusal.{Refusal}
+use Rattle.policy.specs.declared.refusal.Refusal.the-variants.{Bare, Crowded, Conflict}
 use Rattle.policy.specs.Box.{proper}
 use Rattle.policy.specs.Header.{arity, Headers, among}
 use Rattle.policy.specs.Least.{least}
@@ -168,21 +170,21 @@ struck hs p = struckFrom hs [] p
 
 -- ---- the merging of the lists in force
 
+-- refused as bare, crowded or in conflict; or the merged list
 pub data Merging : Type 0 where
-  bare : Merging
-  overfull : Merging
-  conflict : Header → Merging
+  refused : Refusal → Merging
   merged : List Entry → Merging
 
+-- rules 3 and 4 for the working list
 abbrev pub settled : Headers → Found → List Entry → Merging
-settled hs (At h) w = conflict h
+settled hs (At h) w = refused (Conflict h)
 settled hs Nothing w = merged (struck hs w)
 
 abbrev pub finished : Headers → Working → Found → Merging
 finished hs (list w) c = settled hs c w
-finished hs crowded c = overfull
+finished hs crowded c = refused Crowded
 
 -- refusals 8 to 10 in their order, else the merged list
 abbrev pub mergeOf : Headers → List (List Entry) → Merging
-mergeOf hs [] = bare
+mergeOf hs [] = refused Bare
 mergeOf hs (p ∷ ps) = finished hs (working hs p ps) (conflictOf hs (p ∷ ps))

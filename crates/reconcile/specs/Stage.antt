@@ -6,12 +6,13 @@ use mathlib.Core.Option.{Option, none, some}
 use lib.Dec.{leb}
 use lib.ListN.{length, take}
 use Rattle.policy.specs.declared.entry.Entry.{Entry}
+use Rattle.policy.specs.declared.refusal.Refusal.the-variants.{Bare, Crowded}
 use Rattle.policy.specs.Header.{Headers}
 use Rattle.policy.specs.Least.{least}
 use Rattle.policy.specs.Policy.{allowed}
 use Rattle.wire.specs.Format.{recordSize, filedLimit, listLimit, entriesFrom}
 use Rattle.reconcile.specs.declared.stage.Stage.{Stage}
-use Rattle.reconcile.specs.Rules.{isEmpty, trimmed, Working, list, crowded, limited, next, Merging, bare, overfull, settled}
+use Rattle.reconcile.specs.Rules.{isEmpty, trimmed, Working, list, crowded, limited, next, Merging, refused, settled}
 
 -- the working list of the first n entries
 abbrev pub workingIn : List Entry → ℕ → Working
@@ -36,6 +37,6 @@ addedAll hs w (p ∷ ps) = addedAll hs (added hs w p) ps
 
 -- rules 3 and 4 for the working list
 abbrev pub ended : Headers → Option Working → Merging
-ended hs none = bare
-ended hs (some crowded) = overfull
+ended hs none = refused Bare
+ended hs (some crowded) = refused Crowded
 ended hs (some (list w)) = settled hs (least hs λ h. isEmpty (allowed w h)) w

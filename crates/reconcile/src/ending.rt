@@ -23,7 +23,7 @@ ghost use Rattle.policy.specs.Rows.{rowSize, rowsFrom};
 ghost use Rattle.wire.specs.Format.{listLimit};
 ghost use Rattle.reconcile.specs.Rules.{list, merged};
 ghost use Rattle.reconcile.specs.Stage.{stageIn, ended};
-ghost use Rattle.reconcile.specs.Ending.{merging, mergingOf};
+ghost use Rattle.reconcile.specs.Ending.{ending, endingOf};
 
 pub enum Merged {
     // The file's entry count and length.
@@ -34,7 +34,7 @@ pub enum Merged {
 // Writes what is left of the first n entries as a file.
 fn write_merged(left: Struck, n: usize, buffer: &mut [u8]) -> Merged
     requires { ⌜ (left .first ≤ n) × (n ≤ listLimit) ⌝ }
-    ensures { λ r. ⌜ merging r (now (buffer .exit)) ≡ mergingOf (merged (slice (left .first) n (left .entries))) (now (buffer .entry)) ⌝ }
+    ensures { λ r. ⌜ ending r (now (buffer .exit)) ≡ endingOf (merged (slice (left .first) n (left .entries))) (now (buffer .entry)) ⌝ }
 {
     let first = left.first;
     let count = n - first;
@@ -66,7 +66,7 @@ fn put_rows(entries: [Entry; LIST_LIMIT], n: usize, rows: &mut [u32])
 // Rules 3 and 4 for a working list of n entries, and the file of what is left.
 fn end_list(entries: [Entry; LIST_LIMIT], n: usize, rows: &mut [u32], buffer: &mut [u8]) -> Merged
     requires { ⌜ (n ≤ listLimit) × (length (now rows) ≡ rowSize * listLimit) ⌝ }
-    ensures { λ r. ⌜ merging r (now (buffer .exit)) ≡ mergingOf (ended headers (some (list (take n entries)))) (now (buffer .entry)) ⌝ }
+    ensures { λ r. ⌜ ending r (now (buffer .exit)) ≡ endingOf (ended headers (some (list (take n entries)))) (now (buffer .entry)) ⌝ }
 {
     put_rows(entries, n, rows);
     match least_conflict(&rows[0..ROW * n]) {
@@ -77,7 +77,7 @@ fn end_list(entries: [Entry; LIST_LIMIT], n: usize, rows: &mut [u32], buffer: &m
 
 // Ends a merging: writes the merged list as a file to the start of a buffer, or says why not. The rows that are lent may hold anything.
 pub fn end_merging(s: Stage, rows: &mut [u32; ROWS], buffer: &mut [u8]) -> Merged
-    ensures { λ r. ⌜ merging r (now (buffer .exit)) ≡ mergingOf (ended headers (stageIn s)) (now (buffer .entry)) ⌝ }
+    ensures { λ r. ⌜ ending r (now (buffer .exit)) ≡ endingOf (ended headers (stageIn s)) (now (buffer .entry)) ⌝ }
 {
     if s.bare {
         return Merged::Refused(Refusal::Bare);

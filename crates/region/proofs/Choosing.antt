@@ -14,7 +14,7 @@ use Rattle.policy.specs.Row.{Row}
 use Rattle.policy.specs.Box.{Range, within, inside, lows}
 use Rattle.policy.specs.Header.{arity, fields, header, Box, lies}
 use Rattle.policy.specs.Policy.{missed}
-use Rattle.policy.proofs.Branches.{paired}
+use Rattle.policy.proofs.Conjunctions.{paired}
 use Rattle.policy.proofs.Bool.{clash, and-intro, and-left, and-right}
 use Rattle.policy.proofs.Box.{within-by, low-le, le-high}
 use Rattle.policy.proofs.Policy.{missed-append, missed-cons}
@@ -23,19 +23,19 @@ use Rattle.region.specs.declared.pick.Choice.{Choice}
 use Rattle.region.specs.declared.pick.Picked.{Picked}
 use Rattle.region.specs.declared.pick.Picked.the-variants.{Held, Free, Covered}
 use Rattle.policy.specs.Rows.{rowSize, boxOf, rowAt, rowsFrom, rowsIn}
-use Rattle.region.specs.Corner.{holds, reaches, Covers, Picks, numberOf, shifted, HoldsLast, Chooses, Better}
+use Rattle.region.specs.Corner.{holdsCorner, reaches, Covers, Picks, numberOf, shifted, HoldsLast, Chooses, Better}
 use Rattle.region.proofs.Members.{catches, in-left, in-right, row-in}
 
 -- ---- two lists
 
 pub picks-left : (es ds : List Entry) (b : Box) (i : ℕ) → Picks es b (Held i) → Picks (es ++ ds) b (Held i)
-picks-left es ds b i p = (more i (length es) (length ds) (length (es ++ ds)) (p .0) (length-append es ds), ap (λ (s : Box). holds s b) (in-left es ds i (p .0)) ∙ p .1)
+picks-left es ds b i p = (more i (length es) (length ds) (length (es ++ ds)) (p .0) (length-append es ds), ap (λ (s : Box). holdsCorner s b) (in-left es ds i (p .0)) ∙ p .1)
   where
     more : (i m n k : ℕ) → i < m → k ≡ m + n → i < k
     more i m n k l e = omega arith
 
 pub picks-right : (es ds : List Entry) (b : Box) (i : ℕ) → Picks ds b (Held i) → Picks (es ++ ds) b (Held (length es + i))
-picks-right es ds b i p = (more i (length es) (length ds) (length (es ++ ds)) (p .0) (length-append es ds), ap (λ (s : Box). holds s b) (in-right es ds i) ∙ p .1)
+picks-right es ds b i p = (more i (length es) (length ds) (length (es ++ ds)) (p .0) (length-append es ds), ap (λ (s : Box). holdsCorner s b) (in-right es ds i) ∙ p .1)
   where
     more : (i m n k : ℕ) → i < n → k ≡ m + n → m + i < k
     more i m n k l e = omega arith
@@ -102,18 +102,18 @@ module _ (s : List ℕ) (b : Box) where
   count = length s / rowSize
 
   -- the choice, read
-  pub number-held : (r : ℕ) → r < count → holds (boxOf s (rowSize * r)) b ≡ true → Picks (rowsIn s) b (Held r)
-  number-held r l h = (there (length (rowsIn s)) r l (length-rows s 0 count), ap (λ (p : Box). holds p b) (row-in s r l) ∙ h)
+  pub number-held : (r : ℕ) → r < count → holdsCorner (boxOf s (rowSize * r)) b ≡ true → Picks (rowsIn s) b (Held r)
+  number-held r l h = (there (length (rowsIn s)) r l (length-rows s 0 count), ap (λ (p : Box). holdsCorner p b) (row-in s r l) ∙ h)
     where
       there : (n r : ℕ) → r < count → n ≡ count → r < n
       there n r l e = omega arith
 
-  number-covers : (r : ℕ) → r < count → holds (boxOf s (rowSize * r)) b ≡ true → reaches arity (boxOf s (rowSize * r)) b ≡ true → Covers (rowsIn s) b
+  number-covers : (r : ℕ) → r < count → holdsCorner (boxOf s (rowSize * r)) b ≡ true → reaches arity (boxOf s (rowSize * r)) b ≡ true → Covers (rowsIn s) b
   number-covers r l o w h i =
       catches (rowsIn s) r (number-held r l o .0) h (ap (λ (p : Box). lies p h) (row-in s r l) ∙ inside-all arity (boxOf s (rowSize * r)) b (fields h) o w i)
 
   -- where the last of the first i rows holds the corner
-  module _ (i : ℕ) (m : i ≤ count) (h : 0 < i → holds (boxOf s (rowSize * (i - 1))) b ≡ true) (l : 0 < i) where
+  module _ (i : ℕ) (m : i ≤ count) (h : 0 < i → holdsCorner (boxOf s (rowSize * (i - 1))) b ≡ true) (l : 0 < i) where
     -- and reaches the ends
     pub last-covers : reaches arity (boxOf s (rowSize * (i - 1))) b ≡ true → Covers (rowsIn s) b
     last-covers w = number-covers (i - 1) (omega arith) (h l) w
@@ -128,8 +128,8 @@ module _ (s : List ℕ) (b : Box) where
     choose-better c r k (inr q) = subst (λ (d : Choice). Chooses s b (d .number) (d .covers)) (sym q) k
 
   -- a choice that is asked whether it reaches the ends
-  pub choose-judged : (r : ℕ) (old new : Bool) → Chooses s b r old → new ≡ reaches arity (boxOf s (rowSize * r)) b → Chooses s b r new
-  choose-judged r old new c e = (c .0, (c .1 .0, λ t. number-covers r (c .0) (c .1 .0) (sym e ∙ t)))
+  pub choose-with-cover : (r : ℕ) (old new : Bool) → Chooses s b r old → new ≡ reaches arity (boxOf s (rowSize * r)) b → Chooses s b r new
+  choose-with-cover r old new c e = (c .0, (c .1 .0, λ t. number-covers r (c .0) (c .1 .0) (sym e ∙ t)))
 
   -- where none holds it
   pub none-holds : (i : ℕ) → i ≡ 0 → HoldsLast s count (lows arity b) i → missed (rowsIn s) (header (lows arity b)) ≡ true
@@ -173,5 +173,5 @@ module _ (n i : ℕ) (p : Picked) (e : p ≡ Held i) where
   shifted-fits m l = subst (λ (k : ℕ). n + k < m) (ap numberOf e) l
 
 -- behind the rows of a slice
-pub picks-behind : (a b : List ℕ) (x : Box) (i : ℕ) → i < length b / rowSize → holds (boxOf b (rowSize * i)) x ≡ true → Picks (rowsIn a ++ rowsIn b) x (Held (length a / rowSize + i))
+pub picks-behind : (a b : List ℕ) (x : Box) (i : ℕ) → i < length b / rowSize → holdsCorner (boxOf b (rowSize * i)) x ≡ true → Picks (rowsIn a ++ rowsIn b) x (Held (length a / rowSize + i))
 picks-behind a b x i l h = subst (λ (n : ℕ). Picks (rowsIn a ++ rowsIn b) x (Held (n + i))) (length-rows a 0 (length a / rowSize)) (picks-right (rowsIn a) (rowsIn b) x i (number-held b x i l h))

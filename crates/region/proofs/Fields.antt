@@ -16,11 +16,11 @@ use Rattle.policy.specs.Box.{Range, range, within, inside, lows}
 use Rattle.policy.specs.Cut.{empty, above}
 use Rattle.policy.specs.Header.{arity, Box, everything, headers}
 use Rattle.policy.proofs.Bool.{and-left, and-right}
-use Rattle.policy.proofs.Branches.{ends-are, paired}
+use Rattle.policy.proofs.Conjunctions.{ends-are, paired}
 use Rattle.policy.proofs.Box.{le-high}
 use Rattle.region.specs.declared.cut.Candidate.{Candidate}
 use Rattle.policy.specs.Rows.{sides, rowOf, field, boxOf}
-use Rattle.region.specs.Corner.{holds, reaches}
+use Rattle.region.specs.Corner.{holdsCorner, reaches}
 use Rattle.region.specs.Pieces.{upTo, atField, Short, Next, Offered}
 use Rattle.policy.proofs.Every.{every-passed, row-ext}
 use Rattle.region.proofs.Holding.{reaches-every}
@@ -84,7 +84,7 @@ changed F (suc k) (suc f) g h r l e o =
 -- ---- the parts of a box
 
 -- the end of s lies in b
-pub end-in : (b s : List ℕ) (f : ℕ) → Short arity f (boxOf b 0) (boxOf s 0) → holds (boxOf s 0) (boxOf b 0) ≡ true → (field b 0 f .low ≤ field s 0 f .high) × (field s 0 f .high < field b 0 f .high)
+pub end-in : (b s : List ℕ) (f : ℕ) → Short arity f (boxOf b 0) (boxOf s 0) → holdsCorner (boxOf s 0) (boxOf b 0) ≡ true → (field b 0 f .low ≤ field s 0 f .high) × (field s 0 f .high < field b 0 f .high)
 unfolding boxOf
 end-in b s f o c = (held-low arity f (field b 0) (field s 0) (short-field arity f (boxOf b 0) (boxOf s 0) o) c, short-ends arity f (field b 0) (field s 0) o)
 
@@ -102,7 +102,7 @@ module _ (b s : List ℕ) (f x : ℕ) (n : length b ≡ sides) (o : Short arity 
   l : f < arity
   l = short-field arity f (boxOf b 0) (boxOf s 0) o
 
-  raised : holds (boxOf s 0) (boxOf b 0) ≡ true → x ≡ field s 0 f .high → boxOf (set b (2 * f) (x + 1)) 0 ≡ atField above arity f (boxOf b 0) (boxOf s 0)
+  raised : holdsCorner (boxOf s 0) (boxOf b 0) ≡ true → x ≡ field s 0 f .high → boxOf (set b (2 * f) (x + 1)) 0 ≡ atField above arity f (boxOf b 0) (boxOf s 0)
   unfolding boxOf
   raised c e = changed above arity f (field b 0) (field s 0) (field (set b (2 * f) (x + 1)) 0) l here other
     where
@@ -130,7 +130,7 @@ module _ (b s : List ℕ) (f x : ℕ) (n : length b ≡ sides) (o : Short arity 
           off : (j : ℕ) → 2 * j + 1 + 0 ≡ 2 * f → ⊥
           off j e = omega arith
 
-  pub raised-low : (y : ℕ) → holds (boxOf s 0) (boxOf b 0) ≡ true → x ≡ field s 0 f .high → y ≡ x + 1 → boxOf (set b (2 * f) y) 0 ≡ atField above arity f (boxOf b 0) (boxOf s 0)
+  pub raised-low : (y : ℕ) → holdsCorner (boxOf s 0) (boxOf b 0) ≡ true → x ≡ field s 0 f .high → y ≡ x + 1 → boxOf (set b (2 * f) y) 0 ≡ atField above arity f (boxOf b 0) (boxOf s 0)
   raised-low y c e p = ap (λ (y : ℕ). boxOf (set b (2 * f) y) 0) p ∙ raised c e
 
   pub lowered-high : x ≡ field s 0 f .high → boxOf (set b (2 * f + 1) x) 0 ≡ atField upTo arity f (boxOf b 0) (boxOf s 0)

@@ -12,7 +12,7 @@ use Rattle.policy.specs.Rows.{rowOf, field, boxOf}
 use Rattle.policy.proofs.Bool.{not-true, not-false}
 use Rattle.policy.proofs.Every.{every, Passed, one-fails, inside-every}
 use Rattle.policy.proofs.Loops.{passed-more, all-passed}
-use Rattle.policy.proofs.Branches.{paired}
+use Rattle.policy.proofs.Conjunctions.{paired}
 use Rattle.region.specs.Corner.{reaches}
 
 lows-fields : (k : ℕ) (h : ℕ → Range) → rowOf k (λ j. h j .low) ≡ lows k (rowOf k h)

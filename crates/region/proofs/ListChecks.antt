@@ -23,7 +23,7 @@ use Rattle.policy.specs.Rows.{rowSize, rowAt, rowsIn}
 use Rattle.policy.proofs.Box.{same-box}
 use Rattle.policy.proofs.Least.{least-none}
 use Rattle.policy.proofs.Policy.{covering-by}
-use Rattle.policy.proofs.Rows.{Pass, Refuse, refusal-clash, refusal-refuses, refuse-refuses, at-refuses, accepted-passes, passes, at-passes, append-passes}
+use Rattle.policy.proofs.Refusals.{Pass, Refuse, refusal-clash, refusal-refuses, refuse-refuses, at-refuses, accepted-passes, passes, at-passes, append-passes}
 use Rattle.wire.specs.declared.check.Checked.{Checked}
 use Rattle.wire.specs.declared.check.Checked.the-variants.{Good, Refused}
 use Rattle.wire.specs.Format.{headSize, recordSize, countIn, entryAt, entriesFrom, listIn, fileSize}

@@ -13,7 +13,7 @@ use Rattle.policy.specs.Header.{arity, Box}
 use Rattle.policy.specs.Entry.{selector}
 use Rattle.policy.proofs.Bool.{clash, is-false, and-intro, and-left, and-right}
 use Rattle.policy.proofs.Box.{corner-in, in-proper, meet-is}
-use Rattle.region.specs.Corner.{holds, selectorIn, meeting}
+use Rattle.region.specs.Corner.{holdsCorner, selectorIn, meeting}
 use Rattle.region.proofs.Members.{first-in, later-in}
 use Rattle.region.proofs.Split.{Part, Outside}
 
@@ -33,7 +33,7 @@ meets : (b e : Box) (x : Row ℕ arity) → inside arity b x ≡ true → inside
 meets b e x i j = in-proper arity (meet arity b e) x (meet-is arity b e x ∙ and-intro i j)
 
 -- a box meets what holds its low corner
-pub meets-corner : (b s : Box) → proper arity b ≡ true → holds s b ≡ true → proper arity (meet arity b s) ≡ true
+pub meets-corner : (b s : Box) → proper arity b ≡ true → holdsCorner s b ≡ true → proper arity (meet arity b s) ≡ true
 meets-corner b s p c = meets b s (lows arity b) (corner-in arity b p) c
 
 abbrev one : Box → Entry → ℕ

@@ -18,7 +18,7 @@ use Rattle.policy.proofs.Order.{Order, earlier, equal, later, order, pre-trans,
 use Rattle.policy.proofs.Box.{corner-in, none-before}
 use Rattle.policy.proofs.Least.{among-fits}
 use Rattle.policy.proofs.Branch.{found-lies}
-use Rattle.policy.proofs.Branches.{paired}
+use Rattle.policy.proofs.Conjunctions.{paired}
 use Rattle.policy.specs.Rows.{field, boxOf}
 use Rattle.region.specs.Corner.{Within, improves}
 use Rattle.region.proofs.Fields.{fits-first, fits-rest}

@@ -23,9 +23,9 @@ use Rattle.policy.proofs.Least.{least-none, lesser-assoc, lesser-comm}
 use Rattle.policy.proofs.Branch.{corner}
 use Rattle.region.specs.declared.pick.Picked.{Picked}
 use Rattle.region.specs.declared.pick.Picked.the-variants.{Held, Free, Covered}
-use Rattle.region.specs.Corner.{Within, improves, holds, reaches, selectorIn, Picks, PicksBefore, meeting}
+use Rattle.region.specs.Corner.{Within, improves, holdsCorner, reaches, selectorIn, Picks, PicksBefore, meeting}
 use Rattle.region.specs.Pieces.{upTo, atField, Short, Next}
-use Rattle.region.specs.Parts.{Searchable, Ready, Same, Parted}
+use Rattle.region.specs.Searchable.{Searchable, Ready, Same, Remainder}
 use Rattle.region.proofs.Split.{split, upper-part, upper-outside, upper-proper, lower-part, lower-lows, lower-holds, shorts, shorts-fall}
 use Rattle.region.proofs.Meeting.{meets-corner, meeting-le, meeting-lt}
 use Rattle.region.proofs.Fields.{next-short, next-reaches}
@@ -180,7 +180,7 @@ module _ (hs : Headers) (es : List Entry) where
     pub cutting-first : (best : Found) → Cutting s left lower upper best lower upper best g
     cutting-first best = record { next = m; ready = lower-ready s b left f d n l lower k; piece = piece s b left f d n l upper e; same = refl }
 
-    pub parted : (best : Found) (x kept : Box) (found : Found) (h : ℕ) → Cutting s left lower upper best x kept found h → arity ≤ h → Parted hs es b best left kept found
+    pub parted : (best : Found) (x kept : Box) (found : Found) (h : ℕ) → Cutting s left lower upper best x kept found h → arity ≤ h → Remainder hs es b best left kept found
     parted best x kept found h c q = record {
       some = c .piece .0;
       box = c .piece .1;
@@ -241,7 +241,7 @@ module _ (es : List Entry) (b : Box) (best : Found) (x : Box) (found : Found) (n
     module _ (s : Box) (p : s ≡ selectorIn es i) where
       -- the row that was picked is ready to be cut off
       pub open-ready : Ready headers es s x n
-      open-ready = record { number = i; listed = open-listed; its = p; corner-held = ap (λ (s : Box). holds s x) p ∙ pick-is (Held i) e .1; box = o .box }
+      open-ready = record { number = i; listed = open-listed; its = p; corner-held = ap (λ (s : Box). holdsCorner s x) p ∙ pick-is (Held i) e .1; box = o .box }
 
       pub open-unreached : (t : Bool) → t ≡ reaches arity s x → t ≡ false → reaches arity s x ≡ false
       open-unreached t q r = sym q ∙ r
@@ -249,7 +249,7 @@ module _ (es : List Entry) (b : Box) (best : Found) (x : Box) (found : Found) (n
       pub open-reached : (t : Bool) → t ≡ reaches arity s x → t ≡ true → found ≡ lesser (leastIn headers b (missed es)) best
       open-reached t q r = ap (λ (c : Found). lesser c found) (sym (reached-none headers es s x n open-ready (sym q ∙ r))) ∙ sym (o .same)
 
-  pub open-again : (rest : Box) (new : Found) (next : Picked) → Parted headers es x found n rest new → PicksBefore es rest new next → Open es b best rest new (n - 1) next
+  pub open-again : (rest : Box) (new : Found) (next : Picked) → Remainder headers es x found n rest new → PicksBefore es rest new next → Open es b best rest new (n - 1) next
   open-again rest new next d y = record { box = d .box; same = o .same ∙ d .same; pick = y }
 
 -- the measures of the two functions fall

@@ -17,7 +17,7 @@ use Rattle.policy.specs.Header.{arity, fields, Box, lies, Headers}
 use Rattle.policy.specs.Found.{lesser}
 use Rattle.policy.specs.Least.{least, leastIn}
 use Rattle.policy.specs.Entry.{selector, matches}
-use Rattle.policy.specs.Policy.{catcherFrom, catcher, Allowed, actions, uncaught, allowed, missed, part, exceeds}
+use Rattle.policy.specs.Policy.{catcherFrom, catcher, Allowed, actions, uncaught, allowed, missed, atMost, exceeds}
 use Rattle.policy.proofs.Box.{meet-is}
 use Rattle.policy.proofs.Least.{least-none, lesser-assoc, lesser-comm}
 use Rattle.policy.proofs.Branch.{leastIn-union, leastIn-if, implied}
@@ -144,14 +144,14 @@ exceeds-step hs x front e p q =
     ap (leastIn hs x) (fun-ext λ h. ap (missed front h &&_) (one h))
     ∙ by-first-match hs x front e (λ h. judged (Lacking (e .actions)) true (allowed q h)) (exceeds p q)
   where
-    lacks : (b : Allowed) → not (part (actions (e .actions)) b) ≡ judged (Lacking (e .actions)) true b
+    lacks : (b : Allowed) → not (atMost (actions (e .actions)) b) ≡ judged (Lacking (e .actions)) true b
     lacks (actions b) = refl
     lacks uncaught = refl
 
     one : (h : Header) → exceeds (e ∷ p) q h ≡ cond (matches e h) (judged (Lacking (e .actions)) true (allowed q h)) (exceeds p q h)
     one h = go (matches e h)
       where
-        go : (m : Bool) → not (part (cond m (actions (e .actions)) (allowed p h)) (allowed q h)) ≡ cond m (judged (Lacking (e .actions)) true (allowed q h)) (exceeds p q h)
+        go : (m : Bool) → not (atMost (cond m (actions (e .actions)) (allowed p h)) (allowed q h)) ≡ cond m (judged (Lacking (e .actions)) true (allowed q h)) (exceeds p q h)
         go true = lacks (allowed q h)
         go false = refl
 

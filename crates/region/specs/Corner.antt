@@ -32,8 +32,8 @@ abbrev pub Within : Headers → Box → Type 0
 Within hs b = (h : Header) → lies b h ≡ true → among hs h ≡ true
 
 -- the box s holds the low corner of b
-abbrev pub holds : Box → Box → Bool
-holds s b = inside arity s (lows arity b)
+abbrev pub holdsCorner : Box → Box → Bool
+holdsCorner s b = inside arity s (lows arity b)
 
 -- no range of s ends before that of b
 abbrev pub reaches : (k : ℕ) → Row Range k → Row Range k → Bool
@@ -50,13 +50,13 @@ selectorIn es i = selector (getD es i (rowAt [] 0))
 
 -- the number of an entry whose selector holds the low corner of b; or none does; or none of b is missed
 abbrev pub Picks : List Entry → Box → Picked → Type 0
-Picks es b (Held i) = (i < length es) × (holds (selectorIn es i) b ≡ true)
+Picks es b (Held i) = (i < length es) × (holdsCorner (selectorIn es i) b ≡ true)
 Picks es b Free = missed es (header (lows arity b)) ≡ true
 Picks es b Covered = Covers es b
 
 -- the same, where a header is looked for that comes before best: the low corner is the least, or there is none
 abbrev pub PicksBefore : List Entry → Box → Found → Picked → Type 0
-PicksBefore es b best (Held i) = (i < length es) × (holds (selectorIn es i) b ≡ true)
+PicksBefore es b best (Held i) = (i < length es) × (holdsCorner (selectorIn es i) b ≡ true)
 PicksBefore es b best Free = At (header (lows arity b)) ≡ lesser (leastIn headers b (missed es)) best
 PicksBefore es b best Covered = best ≡ lesser (leastIn headers b (missed es)) best
 
@@ -73,7 +73,7 @@ shifted n Covered = Covered
 
 -- row number i of the slice holds the low corner of b, and the rows all of b if the choice says so
 abbrev pub Chooses : List ℕ → Box → ℕ → Bool → Type 0
-Chooses s b i whole = (i < length s / rowSize) × ((holds (boxOf s (rowSize * i)) b ≡ true) × (whole ≡ true → Covers (rowsIn s) b))
+Chooses s b i whole = (i < length s / rowSize) × ((holdsCorner (boxOf s (rowSize * i)) b ≡ true) × (whole ≡ true → Covers (rowsIn s) b))
 
 -- of the first n rows: the last of the first i holds the numbers x, if i is not 0, and none behind it does
 abbrev pub HoldsLast : List ℕ → ℕ → Row ℕ arity → ℕ → Type 0

@@ -1,6 +1,6 @@
 pub mod Corner
 pub mod Pieces
-pub mod Parts
+pub mod Searchable
 pub mod Treated
 pub mod Search
 pub mod ListChecks

@@ -9,7 +9,7 @@ ghost use lib.ListN.{length};
 ghost use Rattle.policy.specs.Cut.{above};
 ghost use Rattle.policy.specs.Header.{arity};
 ghost use Rattle.policy.specs.Rows.{sides, boxOf};
-ghost use Rattle.region.specs.Corner.{holds};
+ghost use Rattle.region.specs.Corner.{holdsCorner};
 ghost use Rattle.region.specs.Pieces.{IsBox, upTo, atField, Short, Next, Offered};
 
 // The number after x, which is below top.
@@ -22,7 +22,7 @@ fn next_number(x: u32, top: u32) -> u32
 
 // Keeps of b the part above s in field number f, in which s ends inside b.
 pub(crate) fn keep_above(b: &mut [u32; SIDES], s: &[u32; SIDES], f: usize)
-    requires { ⌜ (length (now b) ≡ sides) × ((f < arity) × (Short arity f (boxOf (now b) 0) (boxOf (now s) 0) × (holds (boxOf (now s) 0) (boxOf (now b) 0) ≡ true))) ⌝ }
+    requires { ⌜ (length (now b) ≡ sides) × ((f < arity) × (Short arity f (boxOf (now b) 0) (boxOf (now s) 0) × (holdsCorner (boxOf (now s) 0) (boxOf (now b) 0) ≡ true))) ⌝ }
     ensures { λ _. ⌜ IsBox (now (b .exit)) (atField above arity f (boxOf (now (b .entry)) 0) (boxOf (now (s .entry)) 0)) ⌝ }
 {
     b[2 * f] = next_number(high(s, f), high(b, f));

@@ -5,7 +5,7 @@ use crate::cut::keep_up_to;
 use crate::cut::next_field;
 use crate::headers::HEADER_BOXES;
 use crate::headers::header_box;
-use crate::holds::row_reaches;
+use crate::row::row_reaches;
 use crate::pick::Picked;
 use crate::pick::pick_before;
 use crate::pick::row_of_two;
@@ -30,11 +30,11 @@ ghost use Rattle.policy.specs.Least.{leastIn};
 ghost use Rattle.policy.specs.Policy.{missed};
 ghost use Rattle.policy.specs.Rows.{sides, boxOf, rowsIn};
 ghost use Rattle.region.specs.Corner.{reaches};
-ghost use Rattle.region.specs.Parts.{Searchable, Ready, Parted};
+ghost use Rattle.region.specs.Searchable.{Searchable, Ready, Remainder};
 
 // Cuts s, a row that holds the low corner of x and not all of it, off x, field by field, and searches each part above it but one, which it leaves
 // in x. The row meets x, and none of these parts. The parts that are searched by a call have at most half of the headers of x.
-fn search_parts(
+fn search_pieces(
     a: &[u32],
     b: &[u32],
     x: &mut [u32; SIDES],
@@ -44,7 +44,7 @@ fn search_parts(
     levels: u32,
 ) -> Found
     requires { ⌜ (length (now x) ≡ sides) × ((reaches arity (boxOf (now s) 0) (boxOf (now x) 0) ≡ false) × Ready headers (rowsIn (now a) ++ rowsIn (now b)) (boxOf (now s) 0) (boxOf (now x) 0) left) ⌝ }
-    ensures { λ r. ⌜ (length (now (x .exit)) ≡ sides) × Parted headers (rowsIn (now (a .entry)) ++ rowsIn (now (b .entry))) (boxOf (now (x .entry)) 0) best left (boxOf (now (x .exit)) 0) r ⌝ }
+    ensures { λ r. ⌜ (length (now (x .exit)) ≡ sides) × Remainder headers (rowsIn (now (a .entry)) ++ rowsIn (now (b .entry))) (boxOf (now (x .entry)) 0) best left (boxOf (now (x .exit)) 0) r ⌝ }
 {
     let mut ranks = [0u32; FIELDS];
     rank_fields(a, b, x, s, levels, &mut ranks);
@@ -63,9 +63,9 @@ fn search_parts(
         keep_up_to(x, s, f);
         next = next_field(x, s, &ranks);
         if goes_first(&upper, f, &kept, g, most) {
-            found = least_in_part(a, b, &mut upper, found, left - 1, deeper);
+            found = least_in_piece(a, b, &mut upper, found, left - 1, deeper);
         } else {
-            found = least_in_part(a, b, &mut kept, found, left - 1, deeper);
+            found = least_in_piece(a, b, &mut kept, found, left - 1, deeper);
             kept = upper;
             g = f;
         }
@@ -76,7 +76,7 @@ fn search_parts(
 
 // The lesser of best and the least header of x that no row matches. The low corner is the one, if no row holds it. Else a row that does is cut
 // off x, and what that leaves in x is searched next.
-fn least_in_part(
+fn least_in_piece(
     a: &[u32],
     b: &[u32],
     x: &mut [u32; SIDES],
@@ -103,7 +103,7 @@ fn least_in_part(
                 if row_reaches(&s, 0, x) {
                     return found;
                 }
-                found = search_parts(a, b, x, &s, found, n, levels);
+                found = search_pieces(a, b, x, &s, found, n, levels);
                 n -= 1;
                 picked = pick_before(a, b, x, found);
             }
@@ -125,7 +125,7 @@ pub fn least_open(a: &[u32], b: &[u32], x: &[u32; SIDES], best: Found) -> Found
         if !is_proper(&part) {
             continue;
         }
-        found = least_in_part(a, b, &mut part, found, left, LEVELS);
+        found = least_in_piece(a, b, &mut part, found, left, LEVELS);
     }
     found
 }

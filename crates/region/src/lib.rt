@@ -4,7 +4,7 @@ pub mod covering;
 pub mod cut;
 pub mod gap;
 pub mod headers;
-pub mod holds;
+pub mod row;
 pub mod least;
 pub mod pick;
 pub mod rank;

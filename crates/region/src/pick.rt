@@ -1,8 +1,8 @@
 // A row that holds the low corner of a box.
 use crate::corner::is_improved;
 use crate::corner::low_corner;
-use crate::holds::holds_corner;
-use crate::holds::row_reaches;
+use crate::row::holds_corner;
+use crate::row::row_reaches;
 use policy::header::Found;
 use policy::sides::FIELDS;
 use policy::sides::ROW;
@@ -111,7 +111,7 @@ fn up_to_next(s: &[u32], i: usize, b: &[u32; SIDES]) -> usize
 }
 
 // The choice, and whether the row holds all of b.
-fn judged(s: &[u32], b: &[u32; SIDES], c: Choice) -> Choice
+fn with_cover(s: &[u32], b: &[u32; SIDES], c: Choice) -> Choice
     requires { ⌜ Chooses (now s) (boxOf (now b) 0) (c .number) (c .covers) ⌝ }
     ensures { λ r. ⌜ Chooses (now (s .entry)) (boxOf (now (b .entry)) 0) (r .number) (r .covers) ⌝ }
 {
@@ -138,7 +138,7 @@ fn choose(s: &[u32], first: usize, next: usize, b: &[u32; SIDES], enough: f64) -
     while 0 < i {
         best = better(s, i - 1, b, best);
         if enough <= best.weight {
-            return judged(s, b, best);
+            return with_cover(s, b, best);
         }
         i = k;
         k = up_to_next(s, k, b);

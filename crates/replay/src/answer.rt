@@ -103,8 +103,8 @@ pub(crate) fn looked_up(l: Looked) {
 
 pub(crate) fn compared(c: Compared) {
     match c {
-        Compared::Refines => accepted(),
-        Compared::Exceeds(h) => {
+        Compared::Yes => accepted(),
+        Compared::No(h) => {
             accepted();
             print_header(h);
         }

@@ -25,10 +25,11 @@ use Rattle.wire.proofs.Entries.{length-entries}
 use Rattle.wire.proofs.Records.{Bytes}
 use Rattle.region.specs.ListChecks.{gapOf}
 use Rattle.policy.specs.Header.{headers}
-use Rattle.reconcile.specs.Rules.{Merging, bare, overfull, conflict, merged, mergeOf}
+use Rattle.reconcile.specs.Rules.{mergeOf}
+use Rattle.reconcile.proofs.Merging.{merging-cases}
 use Rattle.wire.specs.Answers.{ifAccepted}
 use Rattle.wire.specs.Writing.{placed}
-use Rattle.reconcile.specs.Ending.{mergingOf as mergingIn}
+use Rattle.reconcile.specs.Ending.{endingOf}
 use Rattle.bench.specs.Book.{Book, inForce}
 use Rattle.bench.specs.Answers.{badParty, filingOf}
 use Rattle.bench.specs.Calls.{bookAfter}
@@ -191,19 +192,21 @@ records-length (suc n) s =
 merged-length : (n : ℕ) (file : List ℕ) → n ≤ listLimit → length (mergingLines (accepted (n ∷ fileSize n ∷ []), file)) ≤ 14603
 merged-length n file h = simp length-append (omega (arith, digits-within 2 n (omega arith), records-length n (drop headSize file)))
 
-merging-length : (buffer : List ℕ) → length buffer ≡ fileSize listLimit → (r : Merging) → length (mergingLines (mergingIn r buffer)) ≤ 14603
-merging-length buffer e bare = omega (arith, refused-length 0 (refusal Bare) (omega arith) (omega arith) (omega arith))
-merging-length buffer e overfull = omega (arith, refused-length 0 (refusal Crowded) (omega arith) (omega arith) (omega arith))
-merging-length buffer e (conflict h) = omega (arith, refused-length 0 (refusal (Conflict h)) (omega arith) (omega arith) (omega arith))
-merging-length buffer e (merged m) = go (ltb (length buffer) (fileSize (length m))) refl
+merging-length : (buffer : List ℕ) → length buffer ≡ fileSize listLimit → (ps : List (List Entry)) → length (mergingLines (endingOf (mergeOf headers ps) buffer)) ≤ 14603
+merging-length buffer e ps =
+    merging-cases headers ps (λ r. length (mergingLines (endingOf r buffer)) ≤ 14603)
+    (omega (arith, refused-length 0 (refusal Bare) (omega arith) (omega arith) (omega arith)))
+    (omega (arith, refused-length 0 (refusal Crowded) (omega arith) (omega arith) (omega arith)))
+    (λ h. omega (arith, refused-length 0 (refusal (Conflict h)) (omega arith) (omega arith) (omega arith)))
+    λ m. go m (ltb (length buffer) (fileSize (length m))) refl
   where
-    written : Bool → Answer
-    written t = firstOf (refuse t (Narrow (fileSize (length m))) ∷ []) (accepted (length m ∷ fileSize (length m) ∷ []))
+    written : List Entry → Bool → Answer
+    written m t = firstOf (refuse t (Narrow (fileSize (length m))) ∷ []) (accepted (length m ∷ fileSize (length m) ∷ []))
 
-    go : (t : Bool) → ltb (length buffer) (fileSize (length m)) ≡ t
-        → length (mergingLines (written t, ifAccepted (written t) (placed (fileOf m) buffer) buffer)) ≤ 14603
-    go true t = omega (arith, refused-length 0 (refusal (Narrow (fileSize (length m)))) (omega arith) (omega arith) (omega arith))
-    go false t = merged-length (length m) (placed (fileOf m) buffer) (few (length m) (length buffer) e (ltb-false (length buffer) (fileSize (length m)) t))
+    go : (m : List Entry) (t : Bool) → ltb (length buffer) (fileSize (length m)) ≡ t
+        → length (mergingLines (written m t, ifAccepted (written m t) (placed (fileOf m) buffer) buffer)) ≤ 14603
+    go m true t = omega (arith, refused-length 0 (refusal (Narrow (fileSize (length m)))) (omega arith) (omega arith) (omega arith))
+    go m false t = merged-length (length m) (placed (fileOf m) buffer) (few (length m) (length buffer) e (ltb-false (length buffer) (fileSize (length m)) t))
       where
         few : (n l : ℕ) → l ≡ fileSize listLimit → fileSize n ≤ l → n ≤ listLimit
         few n l e h = omega arith
@@ -221,4 +224,4 @@ report-fits input b = go (ltb inputLimit (length input)) refl
     go true t = omega arith
     go false t =
         simp length-append
-        (omega (arith, filings-length (length input) input b, merging-length mergeBuffer (length-replicate {A = ℕ} (fileSize listLimit) 0) (mergeOf headers (inForce book)), ltb-false inputLimit (length input) t))
+        (omega (arith, filings-length (length input) input b, merging-length mergeBuffer (length-replicate {A = ℕ} (fileSize listLimit) 0) (inForce book), ltb-false inputLimit (length input) t))

@@ -9,7 +9,7 @@ use Rattle.policy.specs.declared.header.Header.{Header}
 use Rattle.policy.specs.declared.refusal.Refusal.{Refusal}
 use Rattle.policy.specs.declared.refusal.Refusal.the-variants.{Crossed, Gap, Conflict}
 use Rattle.policy.specs.Refusals.{numbers, refusal}
-use Rattle.policy.proofs.Rows.{refusal-refuses}
+use Rattle.policy.proofs.Refusals.{refusal-refuses}
 use Rattle.wire.specs.Format.{headerBytes}
 use Rattle.bench.specs.declared.calls.FileAnswer.{FileAnswer}
 use Rattle.bench.specs.declared.calls.FileAnswer.the-variants.{Filed, Refused}

@@ -11,10 +11,10 @@ use borrow.Author.Tests.{ltb-false}
 use Rattle.policy.specs.declared.refusal.Refusal.{Refusal}
 use Rattle.policy.specs.declared.refusal.Refusal.the-variants.{Bare, Crowded, Conflict, Narrow}
 use Rattle.policy.specs.Refusals.{Answer, refusal, accepted, refuse, firstOf}
-use Rattle.policy.proofs.Rows.{refusal-refuses, refusal-clash}
+use Rattle.policy.proofs.Refusals.{refusal-refuses, refusal-clash}
 use Rattle.wire.specs.Format.{headSize, fileSize}
 use Rattle.policy.specs.Header.{headers}
-use Rattle.reconcile.specs.Rules.{Merging, bare, overfull, conflict, merged, mergeOf}
+use Rattle.reconcile.specs.Rules.{Merging, refused, merged, mergeOf}
 use Rattle.reconcile.specs.Ending.{answerOf}
 use Rattle.bench.specs.declared.calls.MergeAnswer.{MergeAnswer}
 use Rattle.bench.specs.declared.calls.MergeAnswer.the-variants.{Merged, Refused}
@@ -26,9 +26,7 @@ use Rattle.report.proofs.Buffer.{same}
 
 -- a file that was written lies within the buffer
 count-fits : (r : Merging) (n l : ℕ) (buffer : List ℕ) → accepted (n ∷ l ∷ []) ≡ answerOf r buffer → fileSize n ≤ length buffer
-count-fits bare n l buffer e = refusal-clash Bare (n ∷ l ∷ []) (sym e)
-count-fits overfull n l buffer e = refusal-clash Crowded (n ∷ l ∷ []) (sym e)
-count-fits (conflict h) n l buffer e = refusal-clash (Conflict h) (n ∷ l ∷ []) (sym e)
+count-fits (refused r) n l buffer e = refusal-clash r (n ∷ l ∷ []) (sym e)
 count-fits (merged m) n l buffer e = go (ltb (length buffer) (fileSize (length m))) refl e
   where
     go : (t : Bool) → ltb (length buffer) (fileSize (length m)) ≡ t

@@ -6,18 +6,19 @@ use mathlib.Core.Path.{_≡_, refl, _∙_, ap}
 use mathlib.Core.Bool.{Bool, true, false, cond}
 use mathlib.Core.List.{List, [], _∷_, _++_}
 use mathlib.Core.Option.{none, some}
-use lib.ListN.{length, take, drop, set, length-replicate}
+use lib.ListN.{length, take, drop, set, length-replicate, getD}
 use borrow.Author.Tests.{le-ltb}
 use Rattle.policy.specs.declared.entry.Entry.{Entry}
 use Rattle.policy.specs.declared.refusal.Refusal.the-variants.{Bare, Crowded, Conflict, Narrow}
 use Rattle.policy.specs.Header.{headers}
 use Rattle.policy.specs.Refusals.{Answer, refusal, accepted, isAccepted, refuse, firstOf}
+use Rattle.policy.proofs.Refusals.{refusal-refuses}
 use Rattle.wire.specs.Format.{headSize, listLimit, fileSize, countIn, listIn, recordOf, recordsOf, fileOf}
 use Rattle.wire.specs.Answers.{ifAccepted}
 use Rattle.wire.specs.Writing.{placed}
 use Rattle.wire.proofs.Records.{Bytes, AllFit, entries-fit}
-use Rattle.reconcile.specs.Rules.{Merging, bare, overfull, conflict, merged, mergeOf}
-use Rattle.reconcile.specs.Ending.{mergingOf as mergingIn}
+use Rattle.reconcile.specs.Rules.{Merging, refused, merged, mergeOf}
+use Rattle.reconcile.specs.Ending.{endingOf}
 use Rattle.reconcile.proofs.Merging.{merged-few}
 use Rattle.bench.specs.Book.{Book, emptyBook, inForce}
 use Rattle.bench.specs.Answers.{filingOf, mergingOf}
@@ -37,9 +38,7 @@ listLines [] = []
 listLines (e ∷ m) = hex (recordOf e) ++ ascii "\n" ++ listLines m
 
 abbrev pub outcomeLines : Merging → List ℕ
-outcomeLines bare = refusedLine 0 (refusal Bare)
-outcomeLines overfull = refusedLine 0 (refusal Crowded)
-outcomeLines (conflict h) = refusedLine 0 (refusal (Conflict h))
+outcomeLines (refused r) = refusedLine 0 (refusal r)
 outcomeLines (merged m) = ascii "merged " ++ decimal (length m) ++ ascii "\n" ++ listLines m
 
 -- the lines of a file's records are those of its list
@@ -49,7 +48,7 @@ records-are (e ∷ m) rest = ap (λ (l : List ℕ). hex (recordOf e) ++ ascii "\
 
 -- a merged list is never too long for the buffer
 module _ (buffer : List ℕ) (size : length buffer ≡ fileSize listLimit) where
-  merged-lines : (m : List Entry) → length m ≤ listLimit → mergingLines (mergingIn (merged m) buffer) ≡ outcomeLines (merged m)
+  merged-lines : (m : List Entry) → length m ≤ listLimit → mergingLines (endingOf (merged m) buffer) ≡ outcomeLines (merged m)
   merged-lines m few =
       ap (λ (t : Bool). mergingLines (written t, ifAccepted (written t) (placed (fileOf m) buffer) buffer))
       (le-ltb (length buffer) (fileSize (length m)) (fits (length m) (length buffer) few size))
@@ -61,10 +60,10 @@ module _ (buffer : List ℕ) (size : length buffer ≡ fileSize listLimit) where
       fits : (n l : ℕ) → n ≤ listLimit → l ≡ fileSize listLimit → fileSize n ≤ l
       fits n l h e = omega arith
 
-  outcome-lines : (r : Merging) → ((m : List Entry) → r ≡ merged m → length m ≤ listLimit) → mergingLines (mergingIn r buffer) ≡ outcomeLines r
-  outcome-lines bare few = refl
-  outcome-lines overfull few = refl
-  outcome-lines (conflict h) few = refl
+  outcome-lines : (r : Merging) → ((m : List Entry) → r ≡ merged m → length m ≤ listLimit) → mergingLines (endingOf r buffer) ≡ outcomeLines r
+  outcome-lines (refused r) few =
+      ap (λ (t : Bool). cond t (ascii "merged " ++ decimal (getD (refusal r .values) 0 0) ++ ascii "\n" ++ recordLines (getD (refusal r .values) 0 0) (drop headSize (cond t (placed [] buffer) buffer))) (refusedLine 0 (refusal r)))
+      (refusal-refuses r)
   outcome-lines (merged m) few = merged-lines m (few m refl)
 
 few-merged : (ps : List (List Entry)) (m : List Entry) → mergeOf headers ps ≡ merged m → length m ≤ listLimit

@@ -6,7 +6,7 @@ use mathlib.Core.Bool.{Bool, cond}
 use mathlib.Core.List.{List}
 use Rattle.policy.specs.declared.refusal.Refusal.{Refusal}
 use Rattle.policy.specs.Refusals.{Answer, refusal, accepted}
-use Rattle.policy.proofs.Rows.{refusal-refuses}
+use Rattle.policy.proofs.Refusals.{refusal-refuses}
 use Rattle.wire.specs.Answers.{ifAccepted}
 
 pub after-accepted {ℓ} : {A : Type ℓ} (vs : List ℕ) (a : Answer) (x y : A) → accepted vs ≡ a → x ≡ ifAccepted a x y

@@ -18,7 +18,7 @@ use Rattle.wire.specs.declared.check.Checked.{Checked}
 use Rattle.wire.specs.declared.check.Checked.the-variants.{Good, Refused}
 use Rattle.wire.specs.Format.{version, recordSize, lengthIn, versionIn, countIn, listIn, fileSize}
 use Rattle.wire.specs.Checks.{missized, badVersion, badCount, firstCrossedFrom, firstCrossed, refuseEntry, fileChecks, checksOf, checked}
-use Rattle.policy.proofs.Rows.{Pass, Refuse, refuse-refuses, passes, first-of-append, refused-stays, not-refused}
+use Rattle.policy.proofs.Refusals.{Pass, Refuse, refuse-refuses, passes, first-of-append, refused-stays, not-refused}
 use Rattle.wire.proofs.Checks.{entry-refuses, size-told, limits-told, count-told, entry-not-refused}
 
 -- a file that passes, with n entries

@@ -19,7 +19,7 @@ use Rattle.policy.specs.Entry.{crossed}
 use Rattle.policy.proofs.Bool.{not-false, clash, or-left, or-right}
 use Rattle.wire.specs.Format.{version, headSize, recordSize, lengthIn, versionIn, countIn, entryAt, entriesFrom}
 use Rattle.wire.specs.Lists.{emptyEntry}
-use Rattle.policy.proofs.Rows.{Refuse, refusal-clash}
+use Rattle.policy.proofs.Refusals.{Refuse, refusal-clash}
 use Rattle.wire.proofs.Entries.{length-entries, entries-at}
 use Rattle.wire.specs.Checks.{missized, badVersion, outside, badCount, firstCrossedFrom, firstCrossed, refuseEntry, crossedOf, checksOf}
 

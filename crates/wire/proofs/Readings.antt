@@ -6,7 +6,7 @@ use mathlib.Core.Path.{_≡_, sym, _∙_, ap}
 use mathlib.Core.List.{List, [], _∷_}
 use lib.ListN.{length}
 use Rattle.policy.specs.declared.refusal.Refusal.{Refusal}
-use Rattle.policy.proofs.Branches.{paired}
+use Rattle.policy.proofs.Conjunctions.{paired}
 use Rattle.wire.specs.declared.check.Checked.{Checked}
 use Rattle.wire.specs.declared.check.Checked.the-variants.{Good, Refused}
 use Rattle.wire.specs.declared.list.Entries.{Entries}

@@ -9,7 +9,7 @@ use lib.ListN.{length, take}
 use lib.Seq.{take-all, take-add, take-at, take-append-seam, length-take-le}
 use Rattle.policy.specs.declared.entry.Entry.{Entry}
 use Rattle.policy.specs.Refusals.{Answer, accepted}
-use Rattle.policy.proofs.Branches.{paired}
+use Rattle.policy.proofs.Conjunctions.{paired}
 use Rattle.wire.specs.declared.list.Entries.{Entries}
 use Rattle.wire.specs.Format.{headSize, recordSize, listLimit, lengthIn, countIn, entriesFrom, listIn, headOf, recordsOf, fileSize, fileOf}
 use Rattle.wire.specs.Checks.{firstCrossed, checksOf}

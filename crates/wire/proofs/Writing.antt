@@ -15,7 +15,7 @@ use Rattle.policy.specs.declared.entry.Entry.{Entry}
 use Rattle.policy.specs.declared.refusal.Refusal.{Refusal}
 use Rattle.policy.specs.declared.refusal.Refusal.the-variants.{Count, Crossed, Narrow}
 use Rattle.policy.specs.Refusals.{Answer, refusal, accepted, firstOf}
-use Rattle.policy.proofs.Branches.{paired}
+use Rattle.policy.proofs.Conjunctions.{paired}
 use Rattle.wire.specs.declared.check.Checked.{Checked}
 use Rattle.wire.specs.declared.check.Checked.the-variants.{Good, Refused}
 use Rattle.wire.specs.declared.list.Entries.{Entries}
@@ -24,7 +24,7 @@ use Rattle.wire.specs.Format.{headSize, recordSize, listLimit, headOf, r
 use Rattle.wire.specs.Checks.{outside, firstCrossed, refuseEntry, crossedOf, checked}
 use Rattle.wire.specs.Lists.{held}
 use Rattle.wire.specs.Writing.{placed, tooNarrow, writeAnswer, writing, writingOf}
-use Rattle.policy.proofs.Rows.{first-of-append, not-refused, refused-stays}
+use Rattle.policy.proofs.Refusals.{first-of-append, not-refused, refused-stays}
 use Rattle.wire.proofs.Answers.{after-accepted, after-refused}
 use Rattle.wire.proofs.Checks.{within-limits, entry-not-refused}
 use Rattle.wire.proofs.Records.{length-records}

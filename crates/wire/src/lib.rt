@@ -2,7 +2,7 @@
 pub mod check;
 pub mod format;
 pub mod header;
-pub mod holds;
+pub mod ranges;
 pub mod list;
 pub mod number;
 pub mod put;

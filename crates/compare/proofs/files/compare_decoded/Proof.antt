@@ -2,7 +2,7 @@
 -- Assumes nothing.
 use native.Mathlib.Omega.{arith}
 use Rattle.region.proofs.ListChecks.{rows-fit, rows-decoded}
-use Rattle.compare.proofs.Rows.{first-refused, second-covers, second-refused, says-refines, says-exceeds}
+use Rattle.compare.proofs.Rows.{first-refused, second-covers, second-refused, says-yes, says-no}
 use borrow.Author.Needs.{needs}
 use Rattle.compare.proofs.files.compare_decoded.Statement.{statement}
 use Rattle.compare.proofs.files.compare_decoded.Tie as tie
@@ -62,7 +62,7 @@ same-length : tie.Need-same-length
 same-length c = search needs
 
 returns : tie.Need-returns
-returns c = search (first-refused, second-refused, says-refines, says-exceeds)
+returns c = search (first-refused, second-refused, says-yes, says-no)
 
 same-length-2 : tie.Need-same-length-2
 same-length-2 c = search needs
@@ -71,7 +71,7 @@ same-length-3 : tie.Need-same-length-3
 same-length-3 c = search needs
 
 returns-2 : tie.Need-returns-2
-returns-2 c = search (first-refused, second-refused, says-refines, says-exceeds)
+returns-2 c = search (first-refused, second-refused, says-yes, says-no)
 
 same-length-4 : tie.Need-same-length-4
 same-length-4 c = search needs
@@ -80,7 +80,7 @@ same-length-5 : tie.Need-same-length-5
 same-length-5 c = search needs
 
 returns-3 : tie.Need-returns-3
-returns-3 c = search (says-refines, rows-decoded)
+returns-3 c = search (says-yes, rows-decoded)
 
 same-length-6 : tie.Need-same-length-6
 same-length-6 c = search needs
@@ -89,7 +89,7 @@ same-length-7 : tie.Need-same-length-7
 same-length-7 c = search needs
 
 returns-4 : tie.Need-returns-4
-returns-4 c = search (says-exceeds, rows-decoded)
+returns-4 c = search (says-no, rows-decoded)
 
 pub compare-decoded-spec : {M : Type 1} → statement M
 compare-decoded-spec =

@@ -1,6 +1,6 @@
 -- Matching is a row of five tests: a field that misses stops it (`stops`), one that matches leaves it to the others (`goes-on`), and the last decides (`ends`).
 -- Assumes nothing.
-use Rattle.policy.proofs.Branches.{stops, goes-on, ends}
+use Rattle.policy.proofs.Conjunctions.{stops, goes-on, ends}
 use borrow.Author.Needs.{needs}
 use Rattle.lookup.proofs.records.record_matches.Statement.{statement}
 use Rattle.lookup.proofs.records.record_matches.Tie as tie

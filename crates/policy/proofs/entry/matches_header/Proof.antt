@@ -10,12 +10,12 @@ sides-of-requires c κs = search needs
 numbers-of-requires : tie.Need-numbers-of-requires
 numbers-of-requires c κs = search needs
 
-holds-requires : tie.Need-holds-requires
-holds-requires c κs = search needs
+is-inside-requires : tie.Need-is-inside-requires
+is-inside-requires c κs = search needs
 
 returns : tie.Need-returns
 returns c = search sides-match
 
 pub matches-header-spec : {M : Type 1} → statement M
 matches-header-spec =
-    tie.close (tie.spec sides-of-requires numbers-of-requires holds-requires returns)
+    tie.close (tie.spec sides-of-requires numbers-of-requires is-inside-requires returns)

@@ -47,8 +47,8 @@ loop-less c = omega arith
 loop-again : tie.Need-loop-again Inv-loop μ-loop
 loop-again c = (omega arith, search set-crossed)
 
-least-in-part-requires : tie.Need-least-in-part-requires Inv-loop μ-loop
-least-in-part-requires c κs = (search needs, record { is-proper = sym (c .before .before .is-proper .ensures) ∙ not-false (c .before .if1 .left); all-headers = search part-headers; few = search rows-few })
+least-in-piece-requires : tie.Need-least-in-piece-requires Inv-loop μ-loop
+least-in-piece-requires c κs = (search needs, record { is-proper = sym (c .before .before .is-proper .ensures) ∙ not-false (c .before .if1 .left); all-headers = search part-headers; few = search rows-few })
 
 loop-less-2 : tie.Need-loop-less-2 Inv-loop μ-loop
 loop-less-2 c = omega arith
@@ -74,7 +74,7 @@ least-open-spec =
     is-proper-requires
     loop-less
     loop-again
-    least-in-part-requires
+    least-in-piece-requires
     loop-less-2
     loop-again-2
     returns)

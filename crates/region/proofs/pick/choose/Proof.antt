@@ -7,7 +7,7 @@ use lib.ListN.{length}
 use Rattle.policy.specs.Box.{lows}
 use Rattle.policy.specs.Header.{arity}
 use Rattle.policy.specs.Rows.{rowSize, boxOf}
-use Rattle.region.specs.Corner.{holds, HoldsLast, Chooses}
+use Rattle.region.specs.Corner.{holdsCorner, HoldsLast, Chooses}
 use Rattle.region.proofs.Choosing.{choose-first, choose-better}
 use Rattle.region.proofs.pick.choose.Statement.{statement}
 use Rattle.region.proofs.pick.choose.Tie as tie
@@ -15,7 +15,7 @@ use Rattle.region.proofs.pick.choose.Tie as tie
 abbrev Inv-loop : tie.InvT-loop
 Inv-loop s first next b enough best₀ i₀ k₀ best i k =
     (i ≤ length s / rowSize)
-    × ((0 < i → holds (boxOf s (rowSize * (i - 1))) (boxOf b 0) ≡ true)
+    × ((0 < i → holdsCorner (boxOf s (rowSize * (i - 1))) (boxOf b 0) ≡ true)
     × (HoldsLast s (i - 1) (lows arity (boxOf b 0)) k × Chooses s (boxOf b 0) (best .number) (best .covers)))
 
 abbrev μ-loop : tie.MeasureT-loop
@@ -36,14 +36,14 @@ sub-better c = omega arith
 better-requires : tie.Need-better-requires Inv-loop μ-loop
 better-requires c κs = omega arith
 
-judged-requires : tie.Need-judged-requires Inv-loop μ-loop
-judged-requires c κs =
+with-cover-requires : tie.Need-with-cover-requires Inv-loop μ-loop
+with-cover-requires c κs =
     let a = c .before .before .before .before .before .before .args in
     let l = c .before .before .before .before .loop in
     choose-better (a .s .now) (boxOf (a .b .now) 0) (l .i) (l .inv .0) (l .inv .1 .0) (c .before .before .before .loop-test .taken) (l .best) _ (l .inv .1 .1 .1) (c .before .before .better .ensures)
 
 returns : tie.Need-returns Inv-loop μ-loop
-returns c = c .judged .ensures
+returns c = c .with-cover .ensures
 
 up-to-next-requires : tie.Need-up-to-next-requires Inv-loop μ-loop
 up-to-next-requires c κs = omega (arith, c .before .before .before .before .loop .inv .1 .1 .0 .0)
@@ -70,7 +70,7 @@ choose-spec =
     loop-holds
     sub-better
     better-requires
-    judged-requires
+    with-cover-requires
     returns
     up-to-next-requires
     loop-less

@@ -1,6 +1,6 @@
 -- The set is not wanted, or the part decides.
 use mathlib.Core.Path.{_∙_, ap}
-use Rattle.policy.proofs.Branches.{stops, goes-on}
+use Rattle.policy.proofs.Conjunctions.{stops, goes-on}
 use Rattle.region.specs.Treated.{wanted}
 use borrow.Author.Needs.{needs}
 use Rattle.region.proofs.treated.has_wanted_part.Statement.{statement}

@@ -1,8 +1,8 @@
 -- The low end decides where x is below it, and the high end otherwise.
 use borrow.Author.Needs.{needs}
 use Rattle.wire.proofs.Within.{below-low, high-decides}
-use Rattle.wire.proofs.holds.within2.Statement.{statement}
-use Rattle.wire.proofs.holds.within2.Tie as tie
+use Rattle.wire.proofs.ranges.within2.Statement.{statement}
+use Rattle.wire.proofs.ranges.within2.Tie as tie
 
 read2-requires : tie.Need-read2-requires
 read2-requires c κs = search needs

@@ -1,8 +1,8 @@
 -- The low end decides where x is below it, and the high end otherwise.
 use borrow.Author.Needs.{needs}
 use Rattle.wire.proofs.Within.{below-low, high-decides}
-use Rattle.wire.proofs.holds.within1.Statement.{statement}
-use Rattle.wire.proofs.holds.within1.Tie as tie
+use Rattle.wire.proofs.ranges.within1.Statement.{statement}
+use Rattle.wire.proofs.ranges.within1.Tie as tie
 
 read1-requires : tie.Need-read1-requires
 read1-requires c κs = search needs

@@ -3,14 +3,17 @@
 use Prim.Native.Nat.{ℕ}
 use native.Mathlib.Omega.{arith}
 use mathlib.Core.Path.{_≡_, refl, sym, _∙_, ap}
-use mathlib.Core.Bool.{Bool, true, false}
+use mathlib.Core.Bool.{Bool, true, false, cond}
 use mathlib.Core.List.{List, [], _∷_, _++_}
 use mathlib.Core.Option.{Option, none, some}
+use lib.Dec.{eqb}
+use lib.ListN.{getD}
 use Rattle.policy.specs.declared.refusal.Refusal.{Refusal}
 use Rattle.policy.specs.declared.refusal.Refusal.the-variants.{Missized, Version, Count, Crossed, Gap, Party, Vacant, Bare, Crowded, Conflict, Narrow}
 use Rattle.policy.specs.declared.header.Header.{Header}
 use Rattle.policy.specs.declared.header.Found.{Found}
 use Rattle.policy.specs.declared.header.Found.the-variants.{At, Nothing}
+use Rattle.policy.specs.Header.{header}
 use Rattle.policy.specs.Refusals.{Answer, refusal, accepted, isAccepted, refuse, refuseAt, firstOf}
 use Rattle.policy.proofs.Bool.{clash}
 
@@ -27,22 +30,23 @@ first-of-append [] qs a = refl
 first-of-append (some r ∷ rs) qs a = refl
 first-of-append (none ∷ rs) qs a = first-of-append rs qs a
 
+-- a refusal has a number of its own
+pub refusal-number : (r : Refusal) → refusal r .number ≡ 0 → ⊥
+refusal-number Missized p = omega arith
+refusal-number Version p = omega arith
+refusal-number Count p = omega arith
+refusal-number (Crossed i) p = omega arith
+refusal-number (Gap h) p = omega arith
+refusal-number Party p = omega arith
+refusal-number Vacant p = omega arith
+refusal-number Bare p = omega arith
+refusal-number Crowded p = omega arith
+refusal-number (Conflict h) p = omega arith
+refusal-number (Narrow n) p = omega arith
+
 -- a refusal is not an acceptance
 pub refusal-clash {ℓ} : {A : Type ℓ} (r : Refusal) (vs : List ℕ) → refusal r ≡ accepted vs → A
-refusal-clash r vs e = absurd (go r (ap (λ (a : Answer). a .number) e))
-  where
-    go : (r : Refusal) → refusal r .number ≡ 0 → ⊥
-    go Missized p = omega arith
-    go Version p = omega arith
-    go Count p = omega arith
-    go (Crossed i) p = omega arith
-    go (Gap h) p = omega arith
-    go Party p = omega arith
-    go Vacant p = omega arith
-    go Bare p = omega arith
-    go Crowded p = omega arith
-    go (Conflict h) p = omega arith
-    go (Narrow n) p = omega arith
+refusal-clash r vs e = absurd (refusal-number r (ap (λ (a : Answer). a .number) e))
 
 -- a row that refuses does so whatever comes after it
 pub refused-stays : (rs : List (Option Answer)) (vs : List ℕ) (r : Refusal) (a : Answer) → refusal r ≡ firstOf rs (accepted vs) → refusal r ≡ firstOf rs a
@@ -68,6 +72,47 @@ abbrev pub Refuse : List (Option Answer) → Type 0
 Refuse [] = Unit {0}
 Refuse (none ∷ rs) = Refuse rs
 Refuse (some a ∷ rs) = (isAccepted a ≡ false) × Refuse rs
+
+-- the refusal of an answer
+abbrev refusalOf : Answer → Refusal
+refusalOf a =
+    cond (eqb n 1) Missized
+    (cond (eqb n 2) Version
+    (cond (eqb n 3) Count
+    (cond (eqb n 4) (Crossed (value 0))
+    (cond (eqb n 5) (Gap named)
+    (cond (eqb n 6) Party
+    (cond (eqb n 7) Vacant
+    (cond (eqb n 8) Bare
+    (cond (eqb n 9) Crowded
+    (cond (eqb n 10) (Conflict named)
+    (Narrow (value 0)))))))))))
+  where
+    n : ℕ
+    n = a .number
+
+    value : ℕ → ℕ
+    value i = getD (a .values) i 0
+
+    named : Header
+    named = header (value 0, (value 1, (value 2, (value 3, (value 4, tt)))))
+
+again : (r : Refusal) → refusalOf (refusal r) ≡ r
+again Missized = refl
+again Version = refl
+again Count = refl
+again (Crossed i) = refl
+again (Gap h) = refl
+again Party = refl
+again Vacant = refl
+again Bare = refl
+again Crowded = refl
+again (Conflict h) = refl
+again (Narrow n) = refl
+
+-- refusals with the same number and values are the same
+pub refusal-same : (r s : Refusal) → refusal r ≡ refusal s → r ≡ s
+refusal-same r s e = sym (again r) ∙ ap refusalOf e ∙ again s
 
 pub refusal-refuses : (r : Refusal) → isAccepted (refusal r) ≡ false
 refusal-refuses Missized = refl

@@ -11,7 +11,7 @@ use Rattle.policy.specs.Header.{arity, Box, Headers}
 use Rattle.policy.specs.Found.{lesser}
 use Rattle.policy.specs.Least.{leastIn}
 use Rattle.policy.specs.Policy.{missed}
-use Rattle.region.specs.Corner.{Within, holds, selectorIn, meeting}
+use Rattle.region.specs.Corner.{Within, holdsCorner, selectorIn, meeting}
 
 -- a proper box of headers that at most so many entries meet
 pub record Searchable (hs : Headers) (es : List Entry) (b : Box) (left : ℕ) : Type 0 where
@@ -24,7 +24,7 @@ pub record Ready (hs : Headers) (es : List Entry) (s b : Box) (left : ℕ) : Typ
   pub number : ℕ
   pub listed : number < length es
   pub its : s ≡ selectorIn es number
-  pub corner-held : holds s b ≡ true
+  pub corner-held : holdsCorner s b ≡ true
   pub box : Searchable hs es b left
 
 -- what is missed of x, below best, is what is missed of the rest, below the finding
@@ -32,7 +32,7 @@ abbrev pub Same : Headers → List Entry → Box → Found → Box → Found →
 Same hs es x best rest found = lesser (leastIn hs x (missed es)) best ≡ lesser (leastIn hs rest (missed es)) found
 
 -- the rest of x after a search of its other parts: fewer entries meet it
-pub record Parted (hs : Headers) (es : List Entry) (x : Box) (best : Found) (left : ℕ) (rest : Box) (found : Found) : Type 0 where
+pub record Remainder (hs : Headers) (es : List Entry) (x : Box) (best : Found) (left : ℕ) (rest : Box) (found : Found) : Type 0 where
   pub some : 1 ≤ left
   pub box : Searchable hs es rest (left - 1)
   pub same : Same hs es x best rest found

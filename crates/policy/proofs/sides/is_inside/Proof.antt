@@ -4,12 +4,12 @@ use native.Mathlib.Omega.{arith}
 use Prim.Native.Nat.{_≤_, _-_}
 use Rattle.policy.specs.Header.{arity}
 use Rattle.policy.proofs.Every.{Passed, passed-none}
-use Rattle.policy.proofs.Loops.{holdsAt, number-below, number-above, number-more, numbers-lie}
-use Rattle.policy.proofs.sides.holds.Statement.{statement}
-use Rattle.policy.proofs.sides.holds.Tie as tie
+use Rattle.policy.proofs.Loops.{insideAt, number-below, number-above, number-more, numbers-lie}
+use Rattle.policy.proofs.sides.is_inside.Statement.{statement}
+use Rattle.policy.proofs.sides.is_inside.Tie as tie
 
 abbrev Inv-loop : tie.InvT-loop
-Inv-loop b x f₀ f = (f ≤ arity) × Passed (holdsAt b x) f
+Inv-loop b x f₀ f = (f ≤ arity) × Passed (insideAt b x) f
 
 abbrev μ-loop : tie.MeasureT-loop
 μ-loop b x f₀ f = arity - f
@@ -57,8 +57,8 @@ loop-again c =
 returns-3 : tie.Need-returns-3 Inv-loop μ-loop
 returns-3 c = search numbers-lie
 
-pub holds-spec : {M : Type 1} → statement M
-holds-spec =
+pub is-inside-spec : {M : Type 1} → statement M
+is-inside-spec =
     tie.close
     (tie.spec
     Inv-loop

@@ -1,8 +1,8 @@
 -- The low end decides where x is below it, and the high end otherwise.
 use borrow.Author.Needs.{needs}
 use Rattle.wire.proofs.Within.{below-low, high-decides}
-use Rattle.wire.proofs.holds.within4.Statement.{statement}
-use Rattle.wire.proofs.holds.within4.Tie as tie
+use Rattle.wire.proofs.ranges.within4.Statement.{statement}
+use Rattle.wire.proofs.ranges.within4.Tie as tie
 
 read4-requires : tie.Need-read4-requires
 read4-requires c κs = search needs
