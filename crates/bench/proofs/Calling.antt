@@ -41,8 +41,8 @@ use Rattle.bench.specs.declared.calls.MergeAnswer.the-variants as merge
 use Rattle.bench.specs.Book.{parties, Book, inForce}
 use Rattle.bench.specs.Answers.{filed, badParty, filingOf, withdrew, isVacant, withdrawalOf, mergedAs, mergingOf}
 use Rattle.bench.specs.Held.{slotSize, vacantSlot, slotWith, bytesIn, slotList, listInSlot, bookOf, openBench, withSlot}
-use Rattle.bench.specs.Slots.{AllFit}
-use Rattle.bench.specs.Calls.{Call, filing, withdrawal, merging, benchFiled, benchWithdrawn, benchStep, benchAfter, bookAfter}
+use Rattle.wire.specs.steps.Fits.{AllFit}
+use Rattle.bench.specs.Calls.{Call, filing, withdrawal, merging, benchFiled, benchWithdrawn, Result, resultOf, benchStep, benchAfter, bookAfter}
 use Rattle.bench.specs.Demand3.{Demand3}
 use Rattle.bench.proofs.Trace.{bench-more, book-after, all-covering, EachSlot, in-force}
 use Rattle.bench.proofs.Demand3.{demand-3}
@@ -68,19 +68,19 @@ opened v e =
 -- ---- file
 
 abbrev pub FiledRight : Bench → ℕ → List ℕ → FileAnswer → Bench → Type 0
-FiledRight b p s a r = ((filed a ≡ filingOf p s) × (r ≡ benchFiled b p s)) × LeadsOn b (filing p s) r
+FiledRight b p s a r = (_≡_ {A = Result} (filed a, r, []) (resultOf b (filing p s))) × LeadsOn b (filing p s) r
 
 -- a refused filing, and an accepted one
 filed-refused : (b : Bench) (p : ℕ) (s : List ℕ) (x : Refusal) → refusal x ≡ filingOf p s → FiledRight b p s (file.Refused x) b
 filed-refused b p s x e =
     let q : b ≡ benchFiled b p s = sym (ap (λ (t : Bool). cond t (withSlot b p (slotWith s)) b) (ap isAccepted (sym e) ∙ refusal-refuses x)) in
-    ((e, q), leads-on b b (filing p s) q)
+    (λ i. (e i, q i, []), leads-on b b (filing p s) q)
 
 filed-accepted : (b : Bench) (p n : ℕ) (s : List ℕ) (slot : Slot) → accepted (n ∷ []) ≡ filingOf p s → slot ≡ slotWith s → FiledRight b p s (file.Filed n) (record { slots = set (b .slots) (p - 1) slot })
 filed-accepted b p n s slot e f =
     let q : record { slots = set (b .slots) (p - 1) slot } ≡ benchFiled b p s =
     ap (withSlot b p) f ∙ sym (ap (λ (t : Bool). cond t (withSlot b p (slotWith s)) b) (ap isAccepted (sym e))) in
-    ((e, q), leads-on b (record { slots = set (b .slots) (p - 1) slot }) (filing p s) q)
+    (λ i. (e i, q i, []), leads-on b (record { slots = set (b .slots) (p - 1) slot }) (filing p s) q)
 
 module _ (b : Bench) (p : ℕ) (s : List ℕ) where
   pub file-low : p < 1 → FiledRight b p s (file.Refused Party) b
@@ -112,12 +112,12 @@ good-fits s c n e q =
 -- ---- withdraw
 
 abbrev pub WithdrawnRight : Bench → ℕ → WithdrawAnswer → Bench → Type 0
-WithdrawnRight b p a r = ((withdrew a ≡ withdrawalOf (bookOf b) p) × (r ≡ benchWithdrawn b p)) × LeadsOn b (withdrawal p) r
+WithdrawnRight b p a r = (_≡_ {A = Result} (withdrew a, r, []) (resultOf b (withdrawal p))) × LeadsOn b (withdrawal p) r
 
 withdrawn-refused : (b : Bench) (p : ℕ) (x : Refusal) → refusal x ≡ withdrawalOf (bookOf b) p → WithdrawnRight b p (withdraw.Refused x) b
 withdrawn-refused b p x e =
     let q : b ≡ benchWithdrawn b p = sym (ap (λ (t : Bool). cond t (withSlot b p vacantSlot) b) (ap isAccepted (sym e) ∙ refusal-refuses x)) in
-    ((e, q), leads-on b b (withdrawal p) q)
+    (λ i. (e i, q i, []), leads-on b b (withdrawal p) q)
 
 -- what reading an array of slots past its end counts as
 abbrev pub noSlot : Slot
@@ -154,7 +154,7 @@ module _ (b : Bench) (p : ℕ) where
       (goes-past vacant Vacant [] (accepted []) (accepted []) (vacant-is b (p - 1) ∙ ne-eqb (getD (b .slots) (p - 1) noSlot .length) 0 n) refl) in
       let q : record { slots = set (b .slots) (p - 1) slot } ≡ benchWithdrawn b p =
       ap (withSlot b p) f ∙ sym (ap (λ (t : Bool). cond t (withSlot b p vacantSlot) b) (ap isAccepted (sym e))) in
-      ((e, q), leads-on b (record { slots = set (b .slots) (p - 1) slot }) (withdrawal p) q)
+      (λ i. (e i, q i, []), leads-on b (record { slots = set (b .slots) (p - 1) slot }) (withdrawal p) q)
 
 -- ---- merge
 
@@ -207,7 +207,7 @@ module _ (b : Bench) (i : ℕ) (w : Option Working) (n : length (b .slots) ≡ 8
 
 abbrev pub MergedRight : Bench → List ℕ → MergeAnswer → List ℕ → Bench → Type 0
 MergedRight b buffer a after r =
-    ((r ≡ b) × _≡_ {A = Answer × List ℕ} (mergedAs a, after) (mergingOf (bookOf b) buffer))
+    (_≡_ {A = Result} (mergedAs a, r, after) (resultOf b (merging buffer)))
     × ((cs : List Call) → benchAfter cs ≡ b → (benchAfter (cs ++ (merging buffer ∷ [])) ≡ r) × Demand3 (inForce (bookAfter cs)) buffer (mergedAs a) after)
 
 module _ (b : Bench) (buffer after : List ℕ) (i : ℕ) (w : Option Working) (n : length (b .slots) ≡ 8) (l : 8 ≤ i) (m : i ≤ 8) (e : Staged b i w) where
@@ -222,7 +222,7 @@ module _ (b : Bench) (buffer after : List ℕ) (i : ℕ) (w : Option Working) (n
       (stages-end (inForce (bookOf b)) w (e .0 ∙ ap (λ (k : Book). addedAll headers none (inForce k)) whole))
 
   right : (a : MergeAnswer) → _≡_ {A = Answer × List ℕ} (mergedAs a, after) (mergingOf (bookOf b) buffer) → MergedRight b buffer a after b
-  right a q = ((refl, q), λ cs c. (leads-on b b (merging buffer) refl cs c, demand cs c))
+  right a q = (λ i. (q i .0, b, q i .1), λ cs c. (leads-on b b (merging buffer) refl cs c, demand cs c))
     where
       demand : (cs : List Call) → benchAfter cs ≡ b → Demand3 (inForce (bookAfter cs)) buffer (mergedAs a) after
       demand cs c =

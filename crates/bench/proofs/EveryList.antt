@@ -5,35 +5,20 @@ use mathlib.Core.Path.{_≡_, refl, sym, ap, subst}
 use mathlib.Core.Bool.{Bool, false, cond}
 use mathlib.Core.List.{List, [], _∷_, _++_}
 use Rattle.policy.specs.Header.{headers}
-use Rattle.policy.specs.Refusals.{Answer, isAccepted}
+use Rattle.policy.specs.Refusals.{isAccepted}
 use Rattle.wire.specs.Format.{headSize, countIn}
-use Rattle.wire.proofs.Records.{AllFit, entries-fit}
+use Rattle.wire.proofs.Records.{entries-fit}
+use Rattle.wire.specs.steps.Fits.{AllFit}
 use Rattle.reconcile.specs.Rules.{mergeOf}
 use Rattle.bench.specs.declared.calls.Bench.{Bench}
 use Rattle.bench.specs.Book.{Book, inForce}
-use Rattle.bench.specs.Answers.{filingOf, withdrawalOf, mergingOf}
+use Rattle.bench.specs.Answers.{mergingOf}
 use Rattle.bench.specs.Held.{vacantSlot, slotWith, bookOf, withSlot}
-use Rattle.bench.specs.Calls.{Call, filing, withdrawal, merging, benchStep, benchAfter, bookAfter}
+use Rattle.bench.specs.Calls.{Call, filing, withdrawal, merging, answerTo, benchStep, lentAfter, lentTo, benchAfter, bookAfter, AllBytes}
 use Rattle.bench.specs.Demand3.{Demand3}
-use Rattle.bench.proofs.Trace.{book-after, all-covering, AllBytes, all-in-force-of}
+use Rattle.bench.proofs.Trace.{book-after, all-covering, all-in-force-of}
 use Rattle.bench.proofs.Demand3.{demand-3, left-alone}
 use Rattle.bench.proofs.Fitting.{reads-back}
-
--- what a call answers on a bench, and what it leaves in the buffer that it was lent, if any: the right-hand sides of the contracts
-abbrev pub answerTo : Bench → Call → Answer
-answerTo b (filing p s) = filingOf p s
-answerTo b (withdrawal p) = withdrawalOf (bookOf b) p
-answerTo b (merging buffer) = mergingOf (bookOf b) buffer .0
-
-abbrev pub lentTo : Call → List ℕ
-lentTo (filing p s) = []
-lentTo (withdrawal p) = []
-lentTo (merging buffer) = buffer
-
-abbrev pub lentAfter : Bench → Call → List ℕ
-lentAfter b (filing p s) = []
-lentAfter b (withdrawal p) = []
-lentAfter b (merging buffer) = mergingOf (bookOf b) buffer .1
 
 -- demand 1: a refused call changes neither the bench nor a lent byte
 pub refused-changes-nothing : (b : Bench) (c : Call) → isAccepted (answerTo b c) ≡ false → (benchStep b c ≡ b) × (lentAfter b c ≡ lentTo c)

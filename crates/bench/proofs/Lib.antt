@@ -5,3 +5,4 @@ pub mod Fitting
 pub mod Slotting
 pub mod Calling
 pub mod EveryList
+pub mod RoundTrips

@@ -12,13 +12,13 @@ use lib.Seq.{paste, take-length, take-all, take-nil}
 use borrow.Author.Tests.{leb-true, leb-false}
 use Rattle.policy.specs.Header.{headers}
 use Rattle.policy.specs.declared.entry.Entry.{Entry}
-use Rattle.wire.specs.Format.{headSize, recordSize, filedLimit, entriesFrom, recordsIn}
-use Rattle.wire.proofs.Records.{Bytes, entries-fit}
+use Rattle.wire.specs.Format.{Bytes, headSize, recordSize, filedLimit, entriesFrom, recordsIn}
+use Rattle.wire.proofs.Records.{entries-fit}
 use Rattle.reconcile.specs.Rules.{Working}
 use Rattle.reconcile.specs.Stage.{filedIn, added}
 use Rattle.bench.specs.declared.slots.Slot.{Slot}
 use Rattle.bench.specs.Held.{slotSize, slotWith, bytesIn, slotList}
-use Rattle.bench.specs.Slots.{AllFit}
+use Rattle.wire.specs.steps.Fits.{AllFit}
 
 -- ---- a file in a slot
 

@@ -11,14 +11,13 @@ use Rattle.policy.specs.declared.entry.Entry.{Entry}
 use Rattle.policy.specs.Header.{headers}
 use Rattle.policy.specs.Policy.{Covering}
 use Rattle.policy.specs.Refusals.{isAccepted}
-use Rattle.wire.specs.Format.{filedLimit, countIn, listIn}
-use Rattle.wire.proofs.Records.{Bytes}
+use Rattle.wire.specs.Format.{Bytes, filedLimit, countIn, listIn}
 use Rattle.reconcile.specs.Crossproduct.{In}
 use Rattle.bench.specs.declared.calls.Bench.{Bench}
 use Rattle.bench.specs.Book.{Book, emptyBook, inForce}
 use Rattle.bench.specs.Answers.{filingOf, withdrawalOf}
 use Rattle.bench.specs.Held.{vacantSlot, slotWith, listInSlot, bookOf, openBench, withSlot}
-use Rattle.bench.specs.Calls.{Call, filing, withdrawal, merging, benchStep, benchFrom, benchAfter, bookStep, bookFrom, bookAfter}
+use Rattle.bench.specs.Calls.{Call, filing, withdrawal, merging, benchStep, benchFrom, benchAfter, bookStep, bookFrom, bookAfter, FilesHave, AllBytes}
 use Rattle.bench.proofs.Filing.{Files, filing-tells, slot-holds}
 
 -- ---- one call more
@@ -82,13 +81,6 @@ EachSlot P [] = Unit {0}
 EachSlot P (none ∷ k) = EachSlot P k
 EachSlot P (some p ∷ k) = P p × EachSlot P k
 
--- what holds of every filing's bytes
-abbrev pub FilesHave : (List ℕ → Type 0) → List Call → Type 0
-FilesHave Q [] = Unit {0}
-FilesHave Q (filing p s ∷ cs) = Q s × FilesHave Q cs
-FilesHave Q (withdrawal p ∷ cs) = FilesHave Q cs
-FilesHave Q (merging buffer ∷ cs) = FilesHave Q cs
-
 anything : (cs : List Call) → FilesHave (λ s. Unit {0}) cs
 anything [] = tt
 anything (filing p s ∷ cs) = (tt, anything cs)
@@ -140,10 +132,6 @@ module _ (P : List Entry → Type 0) where
     all-in-force : (cs : List Call) → FilesHave Q cs → (q : List Entry) → In q (inForce (bookAfter cs)) → P q
     unfolding bookAfter
     all-in-force cs b = in-force (bookFrom emptyBook cs) (from-keeps emptyBook cs b tt)
-
--- filings are of bytes
-abbrev pub AllBytes : List Call → Type 0
-AllBytes cs = FilesHave Bytes cs
 
 pub all-in-force-of : (P : List Entry → Type 0) → ((p : ℕ) (s : List ℕ) → Bytes s → Files p s → P (listIn s))
     → (cs : List Call) → AllBytes cs → (q : List Entry) → In q (inForce (bookAfter cs)) → P q

@@ -1,6 +1,6 @@
 pub mod Book
 pub mod Answers
 pub mod Held
-pub mod Slots
 pub mod Calls
+pub mod Demand2
 pub mod Demand3

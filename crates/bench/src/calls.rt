@@ -12,12 +12,10 @@ use region::covering::check_list;
 use wire::check::Checked;
 ghost use mathlib.Core.Path.{_≡_};
 ghost use mathlib.Core.List.{List, [], _∷_, _++_};
-ghost use Prim.Native.Nat.{ℕ};
-ghost use Rattle.policy.specs.Refusals.{Answer};
 ghost use Rattle.bench.specs.Book.{inForce};
-ghost use Rattle.bench.specs.Answers.{filed, filingOf, withdrew, withdrawalOf, mergedAs, mergingOf};
-ghost use Rattle.bench.specs.Held.{bookOf, openBench};
-ghost use Rattle.bench.specs.Calls.{Call, filing, withdrawal, merging, benchFiled, benchWithdrawn, benchAfter, bookAfter};
+ghost use Rattle.bench.specs.Answers.{filed, withdrew, mergedAs};
+ghost use Rattle.bench.specs.Held.{openBench};
+ghost use Rattle.bench.specs.Calls.{Call, filing, withdrawal, merging, Result, resultOf, benchAfter, bookAfter};
 ghost use Rattle.bench.specs.Demand3.{Demand3};
 
 pub struct Bench {
@@ -68,7 +66,7 @@ impl Bench {
 
     // Files a list for a party, over the one that it has.
     pub fn file(mut self, party: u8, bytes: &[u8]) -> FileResult
-        ensures { λ r. ⌜ (filed (r .answer) ≡ filingOf party (now (bytes .entry))) × (r .bench ≡ benchFiled self party (now (bytes .entry))) ⌝ }
+        ensures { λ r. ⌜ _≡_ {A = Result} (filed (r .answer), r .bench, []) (resultOf self (filing party (now (bytes .entry)))) ⌝ }
         ensures traced { λ r. ⌜ ((cs : List Call) → benchAfter cs ≡ self → benchAfter (cs ++ (filing party (now (bytes .entry)) ∷ [])) ≡ r .bench) ⌝ }
     {
         if party < 1 {
@@ -103,7 +101,7 @@ impl Bench {
 
     // Ends a party's list.
     pub fn withdraw(mut self, party: u8) -> WithdrawResult
-        ensures { λ r. ⌜ (withdrew (r .answer) ≡ withdrawalOf (bookOf self) party) × (r .bench ≡ benchWithdrawn self party) ⌝ }
+        ensures { λ r. ⌜ _≡_ {A = Result} (withdrew (r .answer), r .bench, []) (resultOf self (withdrawal party)) ⌝ }
         ensures traced { λ r. ⌜ ((cs : List Call) → benchAfter cs ≡ self → benchAfter (cs ++ (withdrawal party ∷ [])) ≡ r .bench) ⌝ }
     {
         if party < 1 {
@@ -136,7 +134,7 @@ impl Bench {
 
     // Merges the lists in force into a lent buffer.
     pub fn merge(self, out: &mut [u8]) -> MergeResult
-        ensures { λ r. ⌜ (r .bench ≡ self) × _≡_ {A = Answer × List ℕ} (mergedAs (r .answer), now (out .exit)) (mergingOf (bookOf self) (now (out .entry))) ⌝ }
+        ensures { λ r. ⌜ _≡_ {A = Result} (mergedAs (r .answer), r .bench, now (out .exit)) (resultOf self (merging (now (out .entry)))) ⌝ }
         ensures traced { λ r. ⌜ ((cs : List Call) → benchAfter cs ≡ self
             → (benchAfter (cs ++ (merging (now (out .entry)) ∷ [])) ≡ r .bench)
             × Demand3 (inForce (bookAfter cs)) (now (out .entry)) (mergedAs (r .answer)) (now (out .exit))) ⌝ }

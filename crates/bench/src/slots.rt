@@ -13,7 +13,7 @@ ghost use Rattle.policy.specs.Header.{headers};
 ghost use Rattle.wire.specs.Format.{headSize};
 ghost use Rattle.reconcile.specs.Stage.{stageIn, filedIn, added};
 ghost use Rattle.bench.specs.Held.{slotSize, vacantSlot, slotWith, slotList};
-ghost use Rattle.bench.specs.Slots.{AllFit};
+ghost use Rattle.wire.specs.steps.Fits.{AllFit};
 
 // As many bytes as the longest filed list has.
 pub const SLOT_SIZE: usize = HEAD_SIZE + RECORD_SIZE * FILED_LIMIT;

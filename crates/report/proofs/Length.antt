@@ -19,10 +19,9 @@ use Rattle.policy.specs.declared.refusal.Refusal.{Refusal}
 use Rattle.policy.specs.declared.refusal.Refusal.the-variants.{Missized, Version, Count, Crossed, Gap, Party, Bare, Crowded, Conflict, Narrow}
 use Rattle.policy.specs.Entry.{crossed}
 use Rattle.policy.specs.Refusals.{Answer, refusal, accepted, refuse, refuseAt, firstOf}
-use Rattle.wire.specs.Format.{headSize, recordSize, filedLimit, listLimit, fileSize, fileOf, countIn, listIn}
+use Rattle.wire.specs.Format.{Bytes, headSize, recordSize, filedLimit, listLimit, fileSize, fileOf, countIn, listIn}
 use Rattle.wire.specs.Checks.{missized, badVersion, badCount, firstCrossedFrom, firstCrossed, refuseEntry}
 use Rattle.wire.proofs.Entries.{length-entries}
-use Rattle.wire.proofs.Records.{Bytes}
 use Rattle.region.specs.ListChecks.{gapOf}
 use Rattle.policy.specs.Header.{headers}
 use Rattle.reconcile.specs.Rules.{mergeOf}

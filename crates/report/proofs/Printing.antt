@@ -13,10 +13,11 @@ use Rattle.policy.specs.declared.refusal.Refusal.the-variants.{Bare, Crowded, C
 use Rattle.policy.specs.Header.{headers}
 use Rattle.policy.specs.Refusals.{Answer, refusal, accepted, isAccepted, refuse, firstOf}
 use Rattle.policy.proofs.Refusals.{refusal-refuses}
-use Rattle.wire.specs.Format.{headSize, listLimit, fileSize, countIn, listIn, recordOf, recordsOf, fileOf}
+use Rattle.wire.specs.Format.{Bytes, headSize, listLimit, fileSize, countIn, listIn, recordOf, recordsOf, fileOf}
 use Rattle.wire.specs.Answers.{ifAccepted}
 use Rattle.wire.specs.Writing.{placed}
-use Rattle.wire.proofs.Records.{Bytes, AllFit, entries-fit}
+use Rattle.wire.proofs.Records.{entries-fit}
+use Rattle.wire.specs.steps.Fits.{AllFit}
 use Rattle.reconcile.specs.Rules.{Merging, refused, merged, mergeOf}
 use Rattle.reconcile.specs.Ending.{endingOf}
 use Rattle.reconcile.proofs.Merging.{merged-few}

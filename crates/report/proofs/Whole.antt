@@ -9,7 +9,7 @@ use mathlib.Core.List.{List, _++_}
 use lib.ListN.{length, take, drop}
 use lib.Seq.{take-all, take-at}
 use borrow.Author.Tests.{lt-ltb, le-ltb}
-use Rattle.wire.proofs.Records.{Bytes}
+use Rattle.wire.specs.Format.{Bytes}
 use Rattle.bench.specs.declared.calls.Bench.{Bench}
 use Rattle.bench.specs.Book.{Book}
 use Rattle.bench.specs.Answers.{mergingOf}

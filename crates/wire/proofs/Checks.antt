@@ -21,7 +21,8 @@ use Rattle.wire.specs.Format.{version, headSize, recordSize, lengthIn, v
 use Rattle.wire.specs.Lists.{emptyEntry}
 use Rattle.policy.proofs.Refusals.{Refuse, refusal-clash}
 use Rattle.wire.proofs.Entries.{length-entries, entries-at}
-use Rattle.wire.specs.Checks.{missized, badVersion, outside, badCount, firstCrossedFrom, firstCrossed, refuseEntry, crossedOf, checksOf}
+use Rattle.wire.specs.Checks.{missized, badVersion, outside, badCount, firstCrossedFrom, firstCrossed, refuseEntry, checksOf}
+use Rattle.wire.specs.steps.Crossed.{crossedOf}
 
 -- an `or` that is false
 pub or-false-left : (a b : Bool) → (a || b) ≡ false → a ≡ false

@@ -3,11 +3,12 @@
 use Prim.Native.Nat.{ℕ, zero, suc, _+_, _*_, _≤_, _<_}
 use native.Mathlib.Omega.{arith}
 use native.Mathlib.Nat.{zero-add}
-use mathlib.Core.Path.{_≡_, refl, sym, _∙_, ap, ap₂}
+use native.Mathlib.Numerals.{add-one}
+use mathlib.Core.Path.{_≡_, refl, sym, _∙_, ap, ap₂, subst}
 use mathlib.Core.Bool.{true}
 use mathlib.Core.List.{List, [], _∷_, _++_}
 use lib.ListN.{length, getD, take, drop, length-drop}
-use lib.Seq.{take-add, drop-drop, drop-cons, getD-drop}
+use lib.Seq.{take-suc, take-add, drop-drop, drop-cons, getD-drop}
 use Rattle.policy.specs.declared.entry.Entry.{Entry}
 use lib.Dec.{ltb}
 use borrow.Author.Tests.{ltb-true, lt-ltb}
@@ -16,13 +17,10 @@ use Rattle.policy.specs.Box.{Range, lows, highsFit}
 use Rattle.policy.specs.Header.{arity, sizes}
 use Rattle.policy.specs.Entry.{selector}
 use Rattle.policy.proofs.Bool.{and-left, and-right}
-use Rattle.wire.specs.Format.{version, headSize, recordSize, number2, number4, lengthIn, versionIn, countIn, entryAt, entriesFrom, bytes2, bytes4, recordOf, recordsOf, headOf, fileSize, fileOf}
+use Rattle.wire.specs.Format.{Bytes, version, headSize, recordSize, number2, number4, lengthIn, versionIn, countIn, entryAt, entriesFrom, bytes2, bytes4, recordOf, recordsOf, headOf, fileSize, fileOf}
+use Rattle.wire.specs.steps.Fits.{Fits, AllFit}
 use Rattle.wire.proofs.Numbers.{split2, split4, join2, join4}
 use Rattle.wire.proofs.Entries.{same-entry, entries-after}
-
--- every byte of a slice is below 256
-abbrev pub Bytes : List ℕ → Type 0
-Bytes s = (i : ℕ) → getD s i 0 < 256
 
 -- the k bytes from j on, one by one
 abbrev pub bytesFrom : List ℕ → ℕ → ℕ → List ℕ
@@ -74,19 +72,36 @@ head-is s n f z l v c =
 
 -- ---- from an entry to bytes and back
 
--- the numbers of an entry fit their widths
-pub record Fits (e : Entry) : Type 0 where
-  pub low-ends : fits arity sizes (lows arity (selector e)) ≡ true
-  pub high-ends : highsFit arity sizes (selector e) ≡ true
-  pub set : e .actions < 65536
-
-abbrev pub AllFit : List Entry → Type 0
-AllFit [] = Unit {0}
-AllFit (e ∷ p) = Fits e × AllFit p
+-- an entry fits by its numbers
+pub fits-by : (e : Entry)
+    → e .«local_low» < 4294967296 → e .«local_high» < 4294967296 → e .«remote_low» < 4294967296 → e .«remote_high» < 4294967296
+    → e .«local_port_low» < 65536 → e .«local_port_high» < 65536 → e .«remote_port_low» < 65536 → e .«remote_port_high» < 65536
+    → e .«protocol_low» < 256 → e .«protocol_high» < 256 → e .actions < 65536 → Fits e
+fits-by e l1 h1 l2 h2 l3 h3 l4 h4 l5 h5 a = record {
+  low-ends =
+      rw (
+        lt-ltb (e .«local_low») 4294967296 l1,
+        lt-ltb (e .«remote_low») 4294967296 l2,
+        lt-ltb (e .«local_port_low») 65536 l3,
+        lt-ltb (e .«remote_port_low») 65536 l4,
+        lt-ltb (e .«protocol_low») 256 l5,
+      );
+  high-ends =
+      rw (
+        lt-ltb (e .«local_high») 4294967296 h1,
+        lt-ltb (e .«remote_high») 4294967296 h2,
+        lt-ltb (e .«local_port_high») 65536 h3,
+        lt-ltb (e .«remote_port_high») 65536 h4,
+        lt-ltb (e .«protocol_high») 256 h5,
+      );
+  set = a;
+}
 
 -- the entry at a place of bytes fits
 pub entry-fits : (s : List ℕ) (at : ℕ) → Bytes s → Fits (entryAt s at)
-entry-fits s at f = record { low-ends = lows-fit; high-ends = highs-fit; set = two (at + 26) }
+entry-fits s at f =
+    fits-by (entryAt s at) (four at) (four (at + 4)) (four (at + 8)) (four (at + 12)) (two (at + 16)) (two (at + 18)) (two (at + 20)) (two (at + 22))
+    (f (at + 24)) (f (at + 25)) (two (at + 26))
   where
     two : (x : ℕ) → number2 s x < 65536
     two x = omega (arith, f x, f (x + 1))
@@ -94,29 +109,17 @@ entry-fits s at f = record { low-ends = lows-fit; high-ends = highs-fit; set = t
     four : (x : ℕ) → number4 s x < 4294967296
     four x = omega (arith, f x, f (x + 1), f (x + 2), f (x + 3))
 
-    lows-fit : fits arity sizes (lows arity (selector (entryAt s at))) ≡ true
-    lows-fit =
-        rw (
-          lt-ltb (number4 s at) 4294967296 (four at),
-          lt-ltb (number4 s (at + 8)) 4294967296 (four (at + 8)),
-          lt-ltb (number2 s (at + 16)) 65536 (two (at + 16)),
-          lt-ltb (number2 s (at + 20)) 65536 (two (at + 20)),
-          lt-ltb (getD s (at + 24) 0) 256 (f (at + 24)),
-        )
-
-    highs-fit : highsFit arity sizes (selector (entryAt s at)) ≡ true
-    highs-fit =
-        rw (
-          lt-ltb (number4 s (at + 4)) 4294967296 (four (at + 4)),
-          lt-ltb (number4 s (at + 12)) 4294967296 (four (at + 12)),
-          lt-ltb (number2 s (at + 18)) 65536 (two (at + 18)),
-          lt-ltb (number2 s (at + 22)) 65536 (two (at + 22)),
-          lt-ltb (getD s (at + 25) 0) 256 (f (at + 25)),
-        )
-
 pub entries-fit : (s : List ℕ) (at n : ℕ) → Bytes s → AllFit (entriesFrom s at n)
 entries-fit s at zero f = tt
 entries-fit s at (suc n) f = (entry-fits s at f, entries-fit s (at + recordSize) n f)
+
+-- one entry more
+pub fit-more : (p : List Entry) (i : ℕ) (d : Entry) → i < length p → AllFit (take i p) → Fits (getD p i d) → AllFit (take (i + 1) p)
+fit-more p i d l a f = subst AllFit (sym (ap (λ (n : ℕ). take n p) (add-one i) ∙ take-suc p i d l)) (joined (take i p) a)
+  where
+    joined : (q : List Entry) → AllFit q → AllFit (q ++ getD p i d ∷ [])
+    joined [] b = (f, tt)
+    joined (e ∷ q) b = (b .0, joined q (b .1))
 
 fit-first : (k : ℕ) (ns x : Row ℕ (suc k)) → fits (suc k) ns x ≡ true → (x .0 < ns .0) × (fits k (ns .1) (x .1) ≡ true)
 fit-first k ns x e =

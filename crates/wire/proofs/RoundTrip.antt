@@ -1,27 +1,34 @@
 -- Demand 2: reading and writing undo each other.
 -- Assumes nothing.
-use Prim.Native.Nat.{ℕ, _+_, _*_, _≤_}
+use Prim.Native.Nat.{ℕ, _+_, _*_, _≤_, _<_}
 use native.Mathlib.Omega.{arith}
-use mathlib.Core.Path.{_≡_, refl, sym, _∙_, ap, ap₂}
+use mathlib.Core.Path.{_≡_, refl, sym, _∙_, ap, ap₂, subst}
 use mathlib.Core.List.{List, [], _∷_, _++_, append-nil}
 use mathlib.Core.Option.{none}
 use lib.ListN.{length, take}
+use borrow.Author.Tests.{lt-ltb}
 use lib.Seq.{take-all, take-add, take-at, take-append-seam, length-take-le}
 use Rattle.policy.specs.declared.entry.Entry.{Entry}
-use Rattle.policy.specs.Refusals.{Answer, accepted}
+use Rattle.policy.specs.declared.refusal.Refusal.the-variants.{Narrow}
+use Rattle.policy.specs.Refusals.{Answer, refusal, accepted}
 use Rattle.policy.proofs.Conjunctions.{paired}
 use Rattle.wire.specs.declared.list.Entries.{Entries}
-use Rattle.wire.specs.Format.{headSize, recordSize, listLimit, lengthIn, countIn, entriesFrom, listIn, headOf, recordsOf, fileSize, fileOf}
-use Rattle.wire.specs.Checks.{firstCrossed, checksOf}
+use Rattle.wire.specs.Format.{Bytes, headSize, recordSize, listLimit, lengthIn, countIn, entriesFrom, listIn, headOf, recordsOf, fileSize, fileOf}
+use Rattle.wire.specs.Checks.{firstCrossed, checksOf, checked}
 use Rattle.wire.specs.Lists.{held, listed, readingOf}
-use Rattle.wire.specs.Writing.{placed, writeAnswer, writingOf}
+use Rattle.wire.specs.Writing.{placed, writeAnswer, writingOf, writing, ReadAgain}
 use Rattle.wire.proofs.Numbers.{join2}
-use Rattle.wire.proofs.Answers.{after-accepted}
+use Rattle.wire.proofs.Answers.{after-accepted, after-refused}
 use Rattle.wire.proofs.Entries.{length-entries}
-use Rattle.wire.proofs.Records.{Bytes, AllFit, records-from, head-is, entries-in-file, length-file}
+use Rattle.wire.proofs.Records.{records-from, head-is, entries-in-file, length-file}
+use Rattle.wire.specs.steps.Fits.{AllFit, GoodFit}
+use Rattle.wire.specs.steps.Crossed.{crossedOf}
 use Rattle.wire.proofs.Checks.{sized, right-version, within-limits, limits-told, counted, crossed-none, by-entries}
 use Rattle.wire.proofs.Checked.{accepted-tells}
-use Rattle.wire.proofs.Writing.{write-accepted, accepted-write}
+use Rattle.wire.proofs.Writing.{write-accepted, written, accepted-write}
+use Rattle.wire.specs.declared.check.Checked.{Checked}
+use Rattle.wire.specs.declared.check.Checked.the-variants.{Good}
+use Rattle.wire.specs.declared.write.Written.the-variants as answers
 
 -- Demand 2, "a file read as a list and written again is the same file": one that passes the checks.
 pub read-and-written : (s : List ℕ) (limit n : ℕ) → Bytes s → checksOf s limit ≡ accepted (n ∷ []) → fileOf (listIn s) ≡ s
@@ -74,6 +81,25 @@ file-again s b n f e l =
     (sym (after-accepted (fileSize (length p) ∷ []) (writeAnswer (listed p) b) (placed (fileOf (held (listed p))) b) b t)
     ∙ ap (λ (q : List ℕ). placed q b) (ap fileOf (held-listed p) ∙ read-and-written s listLimit n f e))
 
+-- and to one that has not: it is refused as narrow, by the file's own length
+pub file-narrow : (s b : List ℕ) (n : ℕ) → checksOf s listLimit ≡ accepted (n ∷ []) → length b < length s
+    → writingOf (readingOf s .1) b ≡ (refusal (Narrow (length s)), b)
+file-narrow s b n e l =
+    let p = listIn s in
+    let g = accepted-tells s listLimit n (sym e) in
+    let count : length p ≡ n = length-entries s headSize (countIn s) ∙ g .count-is in
+    let size = g .size in
+    let least = g .least-is in
+    let most = g .most-is in
+    let within = within-limits listLimit (length p) (omega arith) (omega arith) in
+    let uncrossed = ap firstCrossed (held-listed p) ∙ g .uncrossed in
+    let short = lt-ltb (length b) (fileSize (length p)) (omega arith) in
+    let long : fileSize (length p) ≡ length s = omega arith in
+    let t : writeAnswer (listed p) b ≡ refusal (Narrow (fileSize (length p))) = rw (within, uncrossed, short) in
+    sym (ap (λ (q : List Entry). writingOf (listed q) b) (after-accepted (n ∷ []) (checksOf s listLimit) p [] (sym e)))
+    ∙ paired (t ∙ ap (λ (k : ℕ). refusal (Narrow k)) long)
+    (sym (after-refused (Narrow (fileSize (length p))) (writeAnswer (listed p) b) (placed (fileOf (held (listed p))) b) b (sym t)))
+
 -- a list that was written, and its bytes read again: the same list in the first places
 pub list-again : (l : Entries) (b c : List ℕ) (m : ℕ) → length (l .entries) ≡ listLimit → AllFit (held l) → writingOf l b ≡ (accepted (m ∷ []), c)
     → readingOf (take m c) ≡ (accepted (l .count ∷ []), listed (held l))
@@ -83,7 +109,7 @@ list-again l b c m a f h =
     let t = accepted-write l b m e in
     let z = limits-told listLimit (l .count) (t .0) in
     let count : length p ≡ l .count = length-take-le (l .count) (l .entries) (omega arith) in
-    let size : length (fileOf p) ≡ m = length-file p ∙ ap fileSize count ∙ sym (t .1 .1) in
+    let size : length (fileOf p) ≡ m = length-file p ∙ ap fileSize count ∙ sym (t .1 .1 .0) in
     let whole : take m c ≡ fileOf p =
     ap (take m) (sym (after-accepted (m ∷ []) (writeAnswer l b) (placed (fileOf p) b) b e ∙ ap (λ (x : Answer × List ℕ). x .1) h))
     ∙ take-at (fileOf p) _ m size in
@@ -92,3 +118,10 @@ list-again l b c m a f h =
     ap readingOf whole
     ∙ paired (k ∙ ap (λ (n : ℕ). accepted (n ∷ [])) count)
     (sym (ap listed (after-accepted (length p ∷ []) (checksOf (fileOf p) listLimit) (listIn (fileOf p)) [] (sym k))) ∙ ap listed q)
+
+-- the same of what the code has at hand
+pub written-again : (l : Entries) (b : List ℕ) → length (l .entries) ≡ listLimit → (r : Checked) (m n : ℕ) (c : List ℕ) → 1 ≤ l .count → l .count ≤ listLimit
+    → (checked r ≡ crossedOf (held l) (l .count)) × GoodFit r (held l) → r ≡ Good m → n ≡ fileSize (l .count) → n ≤ length b → c ≡ placed (fileOf (held l)) b
+    → ReadAgain l (answers.Done n) c
+written-again l b a r m n c p q f g k h w =
+    list-again l b c n a (subst (λ (x : Checked). GoodFit x (held l)) g (f .1)) (sym (written l b r m n c p q (f .0) g k h w))

@@ -21,7 +21,8 @@ use Rattle.wire.specs.declared.check.Checked.the-variants.{Good, Refused
 use Rattle.wire.specs.declared.list.Entries.{Entries}
 use Rattle.wire.specs.declared.write.Written.the-variants as answers
 use Rattle.wire.specs.Format.{headSize, recordSize, listLimit, headOf, recordOf, recordsOf, fileSize, fileOf}
-use Rattle.wire.specs.Checks.{outside, firstCrossed, refuseEntry, crossedOf, checked}
+use Rattle.wire.specs.Checks.{outside, firstCrossed, refuseEntry, checked}
+use Rattle.wire.specs.steps.Crossed.{crossedOf}
 use Rattle.wire.specs.Lists.{held}
 use Rattle.wire.specs.Writing.{placed, tooNarrow, writeAnswer, writing, writingOf}
 use Rattle.policy.proofs.Refusals.{first-of-append, not-refused, refused-stays}
@@ -143,10 +144,10 @@ module _ (l : Entries) (b : List ℕ) where
 
   -- an acceptance, taken apart
   pub accepted-write : (m : ℕ) → accepted (m ∷ []) ≡ writeAnswer l b
-      → (outside listLimit (l .count) ≡ false) × ((firstCrossed (held l) ≡ none) × (m ≡ fileSize (l .count)))
+      → (outside listLimit (l .count) ≡ false) × ((firstCrossed (held l) ≡ none) × ((m ≡ fileSize (l .count)) × (ltb (length b) (fileSize (l .count)) ≡ false)))
   accepted-write m e =
       let a = accepted (fileSize (l .count) ∷ []) in
       let three = not-refused (outside listLimit (l .count)) Count fromCrossed a (m ∷ []) e in
       let four = entry-not-refused (firstCrossed (held l)) (tooNarrow (l .count) b ∷ []) a (m ∷ []) (three .1) in
       let eleven = not-refused (ltb (length b) (fileSize (l .count))) (Narrow (fileSize (l .count))) [] a (m ∷ []) (four .1) in
-      (three .0, (four .0, ap (λ (x : Answer). getD (x .values) 0 0) (eleven .1)))
+      (three .0, (four .0, (ap (λ (x : Answer). getD (x .values) 0 0) (eleven .1), eleven .0)))

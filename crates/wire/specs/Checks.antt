@@ -45,10 +45,6 @@ abbrev pub refuseEntry : (ℕ → Refusal) → Option ℕ → Option Answer
 refuseEntry r (some i) = some (refusal (r i))
 refuseEntry r none = none
 
--- check 4 alone, of a list of n entries
-abbrev pub crossedOf : List Entry → ℕ → Answer
-crossedOf p n = firstOf (refuseEntry Crossed (firstCrossed p) ∷ []) (accepted (n ∷ []))
-
 -- checks 1 to 4 of a file whose list may have up to `limit` entries, in their order
 abbrev pub fileChecks : List ℕ → ℕ → List (Option Answer)
 fileChecks s limit =

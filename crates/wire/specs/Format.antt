@@ -1,5 +1,5 @@
 -- The file (01, "The file"): its lengths, places and limits are named here, and nowhere else.
-use Prim.Native.Nat.{ℕ, zero, suc, _+_, _*_, _/_, _%_}
+use Prim.Native.Nat.{ℕ, zero, suc, _+_, _*_, _/_, _%_, _<_}
 use mathlib.Core.List.{List, [], _∷_, _++_}
 use lib.ListN.{getD, length}
 use Rattle.policy.specs.declared.entry.Entry.{Entry}
@@ -24,6 +24,10 @@ abbrev pub listLimit : ℕ
 listLimit = 256
 
 -- ---- from bytes
+
+-- every byte of a slice is below 256
+abbrev pub Bytes : List ℕ → Type 0
+Bytes s = (i : ℕ) → getD s i 0 < 256
 
 -- the number of 2 or 4 bytes at a place, the highest byte first
 abbrev pub number2 : List ℕ → ℕ → ℕ

@@ -3,3 +3,4 @@ pub mod Answers
 pub mod Checks
 pub mod Lists
 pub mod Writing
+pub mod steps

@@ -1,9 +1,10 @@
 -- Writing a list as a file into a lent buffer (01, "The file").
 use Prim.Native.Nat.{ℕ}
+use mathlib.Core.Path.{_≡_}
 use mathlib.Core.List.{List, [], _∷_, _++_}
 use mathlib.Core.Option.{Option}
 use lib.Dec.{ltb}
-use lib.ListN.{length, drop}
+use lib.ListN.{length, take, drop}
 use Rattle.policy.specs.declared.refusal.Refusal.the-variants.{Count, Crossed, Narrow}
 use Rattle.policy.specs.Refusals.{Answer, refusal, accepted, refuse, firstOf}
 use Rattle.wire.specs.declared.list.Entries.{Entries}
@@ -12,7 +13,7 @@ use Rattle.wire.specs.declared.write.Written.the-variants.{Done, Refused
 use Rattle.wire.specs.Format.{listLimit, fileSize, fileOf}
 use Rattle.wire.specs.Answers.{ifAccepted}
 use Rattle.wire.specs.Checks.{outside, firstCrossed, refuseEntry}
-use Rattle.wire.specs.Lists.{held}
+use Rattle.wire.specs.Lists.{held, listed, readingOf}
 
 -- bytes at the start of a buffer; those after them keep their values
 abbrev pub placed : List ℕ → List ℕ → List ℕ
@@ -37,6 +38,11 @@ writeAnswer l buffer = firstOf (writeChecks l buffer) (accepted (fileSize (l .co
 -- writing: the answer, and the buffer's final contents; a refusal leaves it as it was
 abbrev pub writingOf : Entries → List ℕ → Answer × List ℕ
 writingOf l buffer = (writeAnswer l buffer, ifAccepted (writeAnswer l buffer) (placed (fileOf (held l)) buffer) buffer)
+
+-- a list that was written, and its bytes read again: the same list
+abbrev pub ReadAgain : Entries → Written → List ℕ → Type 0
+ReadAgain l (Done n) buffer = readingOf (take n buffer) ≡ (accepted (l .count ∷ []), listed (held l))
+ReadAgain l (Refused r) buffer = Unit {0}
 
 -- a writing in 01's terms
 abbrev pub writing : Written → List ℕ → Answer × List ℕ

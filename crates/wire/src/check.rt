@@ -9,7 +9,8 @@ use policy::refusal::Refusal;
 ghost use mathlib.Core.Path.{_≡_};
 ghost use lib.ListN.{length};
 ghost use Rattle.wire.specs.Format.{headSize, fileSize, entriesFrom};
-ghost use Rattle.wire.specs.Checks.{crossedOf, checked, checksOf};
+ghost use Rattle.wire.specs.Checks.{checked, checksOf};
+ghost use Rattle.wire.specs.steps.Crossed.{crossedOf};
 
 pub enum Checked {
     // The number of entries.

@@ -14,9 +14,12 @@ ghost use Prim.Native.Nat.{_-_, _≤_};
 ghost use lib.ListN.{length};
 ghost use lib.Seq.{slice};
 ghost use Rattle.wire.specs.Format.{listLimit, fileSize, fileOf};
-ghost use Rattle.wire.specs.Checks.{crossedOf, checked};
+ghost use Rattle.wire.specs.Checks.{checked};
+ghost use Rattle.wire.specs.steps.Crossed.{crossedOf};
+ghost use Rattle.wire.specs.steps.Fits.{Fits, GoodFit};
+ghost use Rattle.policy.specs.Entry.{crossed};
 ghost use Rattle.wire.specs.Lists.{held};
-ghost use Rattle.wire.specs.Writing.{placed, writing, writingOf};
+ghost use Rattle.wire.specs.Writing.{placed, writing, writingOf, ReadAgain};
 
 pub enum Written {
     // The file's length.
@@ -24,16 +27,23 @@ pub enum Written {
     Refused(Refusal),
 }
 
+// Whether an entry is crossed. Its numbers fit their widths, as those of every entry in memory do.
+fn is_entry_crossed(e: Entry) -> bool
+    ensures { λ t. ⌜ (t ≡ crossed e) × Fits e ⌝ }
+{
+    is_crossed(e)
+}
+
 // Check 4, of a list of at most 256 entries.
 fn check_held(list: Entries) -> Checked
     requires { ⌜ list .count ≤ listLimit ⌝ }
-    ensures { λ r. ⌜ checked r ≡ crossedOf (held list) (list .count) ⌝ }
+    ensures { λ r. ⌜ (checked r ≡ crossedOf (held list) (list .count)) × GoodFit r (held list) ⌝ }
 {
     let n = list.count;
     let mut i: usize = 0;
     while i < n {
         let e = list.entries[i];
-        if is_crossed(e) {
+        if is_entry_crossed(e) {
             return Checked::Refused(Refusal::Crossed(i));
         }
         i += 1;
@@ -59,6 +69,7 @@ pub fn put_entries(entries: [Entry; LIST_LIMIT], from: usize, to: usize, buffer:
 // Writes a list as a file to the start of a buffer.
 pub fn write_list(list: Entries, buffer: &mut [u8]) -> Written
     ensures { λ r. ⌜ writing r (now (buffer .exit)) ≡ writingOf list (now (buffer .entry)) ⌝ }
+    ensures again { λ r. ⌜ ReadAgain list r (now (buffer .exit)) ⌝ }
 {
     let n = list.count;
     if n < 1 {

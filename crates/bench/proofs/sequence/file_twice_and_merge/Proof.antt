@@ -1,7 +1,10 @@
 -- From the opening on, each call carries the list of calls along, and the merging has demand 3 for it.
 -- Assumes nothing.
+use mathlib.Core.Path.{_≡_, _∙_, sym, ap}
 use mathlib.Core.List.{[]}
 use borrow.Author.Needs.{needs}
+use Rattle.bench.specs.declared.calls.Bench.{Bench}
+use Rattle.bench.specs.Calls.{merging, resultOf}
 use Rattle.bench.proofs.sequence.file_twice_and_merge.Statement.{statement}
 use Rattle.bench.proofs.sequence.file_twice_and_merge.Tie as tie
 
@@ -33,7 +36,9 @@ returns c =
     let h1 = f .file .ensures .1 [] h0 in
     let h2 = g .file2 .ensures .1 _ h1 in
     let h3 = w .withdraw .ensures .1 _ h2 in
-    m .merge .ensures .1 _ h3 .1
+    let start = f .before .before .before .before .before in
+    let d = m .merge .ensures .1 _ h3 in
+    (m .merge .ensures .0 ∙ ap (λ (x : Bench). resultOf x (merging (start .args .out .now))) (sym h3), d .1)
 
 pub file-twice-and-merge-spec : {M : Type 1} → statement M
 file-twice-and-merge-spec =

@@ -1,22 +1,29 @@
 -- By the first refusal, else the list's file is put.
+use mathlib.Core.Path.{_≡_}
+use lib.ListN.{length, length-map}
 use borrow.Author.Needs.{needs}
 use Rattle.wire.specs.Format.{listLimit}
 use Rattle.wire.proofs.Checks.{none-outside, past-outside}
 use Rattle.wire.proofs.Writing.{count-refused, crossed-refused, narrow-refused, written}
+use Rattle.wire.proofs.RoundTrip.{written-again}
 use Rattle.wire.proofs.write.write_list.Statement.{statement}
 use Rattle.wire.proofs.write.write_list.Tie as tie
+
+-- the length of the array, from what owning the list tells
+places : (c : tie.Start) → length (c .args .list .entries) ≡ listLimit
+places c = simp length-map at (c .good .0 .1 .1 .0 .1 .0 .1)
 
 returns : tie.Need-returns
 returns c =
     let l = c .before .before .args .list in
     let b = c .before .before .args .buffer .now in
-    count-refused l b (none-outside listLimit (l .count) (search needs))
+    (count-refused l b (none-outside listLimit (l .count) (search needs)), tt)
 
 returns-2 : tie.Need-returns-2
 returns-2 c =
     let l = c .before .before .before .args .list in
     let b = c .before .before .before .args .buffer .now in
-    count-refused l b (past-outside listLimit (l .count) (search needs))
+    (count-refused l b (past-outside listLimit (l .count) (search needs)), tt)
 
 check-held-requires : tie.Need-check-held-requires
 check-held-requires c κs = search needs
@@ -34,19 +41,21 @@ add-size : tie.Need-add-size
 add-size c = search needs
 
 returns-3 : tie.Need-returns-3
-returns-3 c = search narrow-refused
+returns-3 c = (search narrow-refused, tt)
 
 put-entries-requires : tie.Need-put-entries-requires
 put-entries-requires c κs = search needs
 
 returns-4 : tie.Need-returns-4
-returns-4 c = search crossed-refused
+returns-4 c = (search crossed-refused, tt)
 
 same-length : tie.Need-same-length
 same-length c = search needs
 
 returns-5 : tie.Need-returns-5
-returns-5 c = search written
+returns-5 c =
+    let g = c .before .before .before .before .before .before .before .before .before .before .before .before in
+    (search written, search (written-again (g .args .list) (g .args .buffer .now) (places g)))
 
 pub write-list-spec : {M : Type 1} → statement M
 write-list-spec =
