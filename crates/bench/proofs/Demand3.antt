@@ -22,6 +22,7 @@ use Rattle.policy.specs.Refusals.{Answer, refusal, accepted, isAccepted, number
 use Rattle.policy.proofs.Bool.{clash, is-false, not-true}
 use Rattle.policy.proofs.Refusals.{refusal-number, refusal-same, refusal-clash}
 use Rattle.wire.specs.Format.{listIn, fileSize, fileOf}
+use Rattle.reconcile.specs.Crossproduct.{AllCovering}
 use Rattle.reconcile.specs.Rules.{Working, list, crowded, working, Merging, refused, merged, finished, mergeOf, conflictOf, commonActions, lacking, same}
 use Rattle.reconcile.proofs.Decide.{Witness}
 use Rattle.reconcile.proofs.Common.{same-by, common-permits, common-caught, empty-permits, permits-empty}
@@ -31,7 +32,6 @@ use Rattle.wire.specs.Writing.{placed}
 use Rattle.wire.proofs.Records.{length-file}
 use Rattle.reconcile.specs.Ending.{answerOf, fileFor}
 use Rattle.bench.specs.Demand3.{NoCommonAction, LeastWithout, Accepted, MergedList, Demand3}
-use Rattle.bench.proofs.Trace.{AllCovering}
 
 -- a merged list is read again from the start of what holds its file
 abbrev pub ReadsBack : List (List Entry) → Type 0
@@ -39,7 +39,7 @@ ReadsBack ps = (m : List Entry) → mergeOf headers ps ≡ merged m → (r : Lis
 
 -- ---- no action in common
 
-module _ (p : List Entry) (ps : List (List Entry)) (covering : AllCovering (p ∷ ps)) (h : Header) (member : among headers h ≡ true) where
+module _ (p : List Entry) (ps : List (List Entry)) (covering : AllCovering headers (p ∷ ps)) (h : Header) (member : among headers h ≡ true) where
   pub none-common : lacking (p ∷ ps) h ≡ true → NoCommonAction (p ∷ ps) h
   none-common e k = sym (common-permits k p ps h) ∙ empty-permits (commonActions (p ∷ ps) h) e k
 
@@ -49,7 +49,7 @@ module _ (p : List Entry) (ps : List (List Entry)) (covering : AllCovering (p �
 
 -- ---- the merged list
 
-module _ (p : List Entry) (ps : List (List Entry)) (covering : AllCovering (p ∷ ps)) (m : List Entry) (e : mergeOf headers (p ∷ ps) ≡ merged m) where
+module _ (p : List Entry) (ps : List (List Entry)) (covering : AllCovering headers (p ∷ ps)) (m : List Entry) (e : mergeOf headers (p ∷ ps) ≡ merged m) where
   pub merged-list-is : MergedList (p ∷ ps) m (length m)
   merged-list-is = record {
     count = refl;
@@ -133,7 +133,7 @@ module _ (buffer : List ℕ) where
 
   -- ---- all of it
 
-  pub demand-3 : (ps : List (List Entry)) → AllCovering ps → ReadsBack ps → Demand3 ps buffer (answerOf (mergeOf headers ps) buffer) (ifAccepted (answerOf (mergeOf headers ps) buffer) (placed (fileFor (mergeOf headers ps)) buffer) buffer)
+  pub demand-3 : (ps : List (List Entry)) → AllCovering headers ps → ReadsBack ps → Demand3 ps buffer (answerOf (mergeOf headers ps) buffer) (ifAccepted (answerOf (mergeOf headers ps) buffer) (placed (fileFor (mergeOf headers ps)) buffer) buffer)
   demand-3 [] covering back = record {
     conflict-named = λ h r. absurd r;
     conflict-found = λ r. absurd r;

@@ -12,7 +12,7 @@ use Rattle.policy.specs.Header.{headers}
 use Rattle.policy.specs.Policy.{Covering}
 use Rattle.policy.specs.Refusals.{isAccepted}
 use Rattle.wire.specs.Format.{Bytes, filedLimit, countIn, listIn}
-use Rattle.reconcile.specs.Crossproduct.{In}
+use Rattle.reconcile.specs.Crossproduct.{In, AllCovering}
 use Rattle.bench.specs.declared.calls.Bench.{Bench}
 use Rattle.bench.specs.Book.{Book, emptyBook, inForce}
 use Rattle.bench.specs.Answers.{filingOf, withdrawalOf}
@@ -70,10 +70,6 @@ unfolding benchAfter bookAfter
 book-after cs = from-holds openBench emptyBook cs refl
 
 -- ---- every list in the book was filed
-
--- every list in force is covering
-abbrev pub AllCovering : List (List Entry) → Type 0
-AllCovering ps = (q : List Entry) → In q ps → Covering headers q
 
 -- what holds of every list in a slot
 abbrev pub EachSlot : (List Entry → Type 0) → Book → Type 0
@@ -137,5 +133,5 @@ pub all-in-force-of : (P : List Entry → Type 0) → ((p : ℕ) (s : List ℕ) 
     → (cs : List Call) → AllBytes cs → (q : List Entry) → In q (inForce (bookAfter cs)) → P q
 all-in-force-of P f cs b = all-in-force P Bytes f cs b
 
-pub all-covering : (cs : List Call) → AllCovering (inForce (bookAfter cs))
+pub all-covering : (cs : List Call) → AllCovering headers (inForce (bookAfter cs))
 all-covering cs = all-in-force (Covering headers) (λ s. Unit {0}) (λ p s b f. f .file .covering) cs (anything cs)

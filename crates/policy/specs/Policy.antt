@@ -59,7 +59,8 @@ Covering hs p = (h : Header) → among hs h ≡ true → caught p h ≡ true
 abbrev pub Equivalent : Headers → List Entry → List Entry → Type 0
 Equivalent hs p q = (h : Header) → among hs h ≡ true → allowed p h ≡ allowed q h
 
--- Definition 6: p allows every header a subset of what q allows it
+-- Definition 6: p allows every header a subset of what q allows it. 004 says it of policies; here p and q may be any lists, and a header that p
+-- leaves uncaught is allowed a subset of anything
 abbrev pub Refines : Headers → List Entry → List Entry → Type 0
 Refines hs p q = (h : Header) → among hs h ≡ true → atMost (allowed p h) (allowed q h) ≡ true
 

@@ -11,7 +11,7 @@ use Rattle.policy.specs.Policy.{Allowed, actions, uncaught, allowed}
 use Rattle.policy.proofs.Box.{meet-is}
 use Rattle.policy.proofs.Policy.{orNext, allowed-append}
 use Rattle.reconcile.specs.Crossproduct.{both}
-use Rattle.reconcile.specs.Rules.{inBoth, commonWith, commonActions, cross, crossAll}
+use Rattle.reconcile.specs.Rules.{inBoth, cross}
 
 -- the intersection matches where both match
 pub both-is : (d e : Entry) (h : Header) → matches (both d e) h ≡ (matches d h && matches e h)
@@ -46,7 +46,3 @@ cross-is (d ∷ p) q h =
     go true (actions a) uncaught = refl
     go true uncaught uncaught = refl
     go false x y = refl
-
-pub crossAll-is : (p : List Entry) (ps : List (List Entry)) (h : Header) → allowed (crossAll p ps) h ≡ commonActions (p ∷ ps) h
-crossAll-is p [] h = refl
-crossAll-is p (q ∷ ps) h = crossAll-is (cross p q) ps h ∙ ap (λ (a : Allowed). commonWith a ps h) (cross-is p q h)

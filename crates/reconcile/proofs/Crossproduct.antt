@@ -1,4 +1,4 @@
--- Ordered crossproducts of any number of policies: Lemmas 19 and 25, Theorems 26 to 28 of 004.
+-- Ordered crossproducts of any number of policies: Lemmas 19 and 25 of 004, and what they allow.
 -- Assumes nothing.
 use Prim.Native.Nat.{ℕ, zero, suc, _+_, _<_, _≤_}
 use native.Mathlib.Omega.{arith}
@@ -15,15 +15,14 @@ use Rattle.policy.specs.declared.entry.Caught.{Caught}
 use Rattle.policy.specs.declared.entry.Caught.the-variants.{By, Uncaught}
 use Rattle.policy.specs.Header.{Headers}
 use Rattle.policy.specs.Entry.{matches}
-use Rattle.policy.specs.Policy.{catcherFrom, catcher, Allowed, actions, uncaught, allowed, isCaught, missed, Covering, Refines}
+use Rattle.policy.specs.Policy.{catcherFrom, catcher, Allowed, actions, uncaught, allowed, isCaught, missed, Covering}
 use Rattle.policy.proofs.Bool.{clash, is-false, not-true, and-intro, and-left, and-right}
 use Rattle.policy.proofs.Policy.{missed-cons, Catches, caught-by, uncaught-by, catches-allows}
 use Rattle.wire.specs.Lists.{emptyEntry}
-use Rattle.reconcile.specs.Crossproduct.{In, Reconciles, both, Tuple, IsTuple, entryWith, entryOf, entriesOf, Crossproduct, Precedes, Extends, OrderedCrossproduct, EachCatches}
-use Rattle.reconcile.specs.Rules.{inBoth, commonWith, commonActions, dropEmpty}
-use Rattle.reconcile.proofs.Common.{common-reconciles, common-widest, common-caught, with-uncaught}
+use Rattle.reconcile.specs.Crossproduct.{In, AllCovering, both, Tuple, IsTuple, entryWith, entryOf, entriesOf, Crossproduct, Precedes, Extends, OrderedCrossproduct, EachCatches}
+use Rattle.reconcile.specs.Rules.{inBoth, commonWith, commonActions}
+use Rattle.reconcile.proofs.Common.{common-caught, with-uncaught}
 use Rattle.reconcile.proofs.Crossing.{both-is}
-use Rattle.reconcile.proofs.Drop.{dropEmpty-allows}
 
 -- ---- one policy
 
@@ -270,22 +269,9 @@ module _ (p : List Entry) (ps : List (List Entry)) (ts : List Tuple) (x : Ordere
       go (each t c) = at-first h t c .allows ∙ sym (catching-allows p ps t h c)
       go (lacks a f) = at-none h f .1 ∙ sym (lacks-common p ps h a)
 
-  module _ (hs : Headers) where
-    -- Theorem 26: it is a correct reconciliation
-    pub theorem26 : Reconciles hs (p ∷ ps) (entriesOf (p ∷ ps) ts)
-    theorem26 = common-reconciles hs (p ∷ ps) (entriesOf (p ∷ ps) ts) λ h a. ordered-is h
-
-    -- Theorem 27: every correct reconciliation refines it
-    pub theorem27 : (q : List Entry) → Reconciles hs (p ∷ ps) q → Refines hs q (entriesOf (p ∷ ps) ts)
-    theorem27 = common-widest hs p ps (entriesOf (p ∷ ps) ts) λ h a. ordered-is h
-
-    -- Theorem 28: so it is without the entries that have an empty selector
-    pub theorem28 : Reconciles hs (p ∷ ps) (dropEmpty (entriesOf (p ∷ ps) ts))
-    theorem28 = common-reconciles hs (p ∷ ps) (dropEmpty (entriesOf (p ∷ ps) ts)) λ h a. dropEmpty-allows (entriesOf (p ∷ ps) ts) h ∙ ordered-is h
-
 -- Lemma 19: any crossproduct of covering lists is covering
 pub lemma19 : (hs : Headers) (p : List Entry) (ps : List (List Entry)) (ts : List Tuple) → Crossproduct (p ∷ ps) ts
-    → ((q : List Entry) → In q (p ∷ ps) → Covering hs q) → Covering hs (entriesOf (p ∷ ps) ts)
+    → AllCovering hs (p ∷ ps) → Covering hs (entriesOf (p ∷ ps) ts)
 lemma19 hs p ps ts x f h a = go (cases (p ∷ ps) h)
   where
     go : Case (p ∷ ps) h → isCaught (allowed (entriesOf (p ∷ ps) ts) h) ≡ true

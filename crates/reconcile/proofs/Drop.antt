@@ -1,4 +1,4 @@
--- Rule 2: dropping leaves what the list allows (Theorem 33), in one pass; what is left catches; and Lemmas 31 and 32.
+-- Rule 2: dropping leaves what the list allows; what is left catches; and Lemmas 31 and 32.
 -- Assumes nothing.
 use Prim.Native.Nat.{ℕ, suc, _+_}
 use native.Mathlib.Omega.{arith}
@@ -20,7 +20,7 @@ use Rattle.policy.specs.Policy.{catcherFrom, catcher, Allowed, actions, uncaugh
 use Rattle.policy.proofs.Bool.{clash, is-false, not-true, not-false, and-intro, and-left, and-right, or-elim, or-left, or-right}
 use Rattle.policy.proofs.Box.{in-proper}
 use Rattle.policy.proofs.Policy.{orNext, allowed-append, missed-append, missed-cons, Catches, caught-by}
-use Rattle.reconcile.specs.Rules.{noHeader, isEmpty, dropEmpty, Shadowed, shadowed, dropShadowed, trimmed, hasEmpty}
+use Rattle.reconcile.specs.Rules.{noHeader, isEmpty, dropEmpty, Shadowed, shadowed, dropShadowed, WithoutShadowed, trimmed, hasEmpty}
 use Rattle.reconcile.proofs.Decide.{Witness, none-by, nowhere, witness, somewhere}
 
 -- ---- entries with an empty selector
@@ -112,25 +112,36 @@ module _ (hs : Headers) (front : List Entry) (e : Entry) (back : List Entry) whe
 -- ---- entries that catch no header
 
 module _ (hs : Headers) where
-  pub dropShadowed-allows : (front p : List Entry) (h : Header) → among hs h ≡ true → missed front h ≡ true → allowed (dropShadowed hs front p) h ≡ allowed p h
-  dropShadowed-allows front [] h a u = refl
-  dropShadowed-allows front (e ∷ p) h a u = go (dropShadowed-allows (front ++ e ∷ []) p h a) (shadowed hs front e) refl (matches e h) refl
+  -- without any of them the list allows the same
+  pub withoutShadowed-allows : (front p q : List Entry) → WithoutShadowed hs front p q
+      → (h : Header) → among hs h ≡ true → missed front h ≡ true → allowed q h ≡ allowed p h
+  withoutShadowed-allows front [] q w h a u = ap (λ (l : List Entry). allowed l h) w
+  withoutShadowed-allows front (e ∷ p) q w h a u = go (λ r v. withoutShadowed-allows (front ++ e ∷ []) p r v h a) w (matches e h) refl
+    where
+      go : ((r : List Entry) → WithoutShadowed hs (front ++ e ∷ []) p r → missed (front ++ e ∷ []) h ≡ true → allowed r h ≡ allowed p h)
+          → WithoutShadowed hs front (e ∷ p) q → (m : Bool) → matches e h ≡ m → allowed q h ≡ cond m (actions (e .actions)) (allowed p h)
+      go ih (inl (r, k, v)) true m = ap (λ (l : List Entry). allowed l h) k ∙ ap (λ (b : Bool). cond b (actions (e .actions)) (allowed r h)) m
+      go ih (inl (r, k, v)) false m =
+          ap (λ (l : List Entry). allowed l h) k
+          ∙ ap (λ (b : Bool). cond b (actions (e .actions)) (allowed r h)) m
+          ∙ ih r v (missed-more front e h u m)
+      go ih (inr (s, v)) true m = clash (s h a m) (not-true u)
+      go ih (inr (s, v)) false m = ih q v (missed-more front e h u m)
+
+  -- rule 2 removes all of them
+  dropShadowed-without : (front p : List Entry) → WithoutShadowed hs front p (dropShadowed hs front p)
+  dropShadowed-without front [] = refl
+  dropShadowed-without front (e ∷ p) = go (dropShadowed-without (front ++ e ∷ []) p) (shadowed hs front e) refl
     where
       rest : List Entry
       rest = dropShadowed hs (front ++ e ∷ []) p
 
-      go : (missed (front ++ e ∷ []) h ≡ true → allowed rest h ≡ allowed p h) → (b : Bool) → shadowed hs front e ≡ b → (m : Bool) → matches e h ≡ m
-          → allowed (cond b rest (e ∷ rest)) h ≡ cond m (actions (e .actions)) (allowed p h)
-      go ih true s true q = clash (shadowed-tells hs front e s h a q) (not-true u)
-      go ih true s false q = ih (missed-more front e h u q)
-      go ih false s true q = ap (λ (m : Bool). cond m (actions (e .actions)) (allowed rest h)) q
-      go ih false s false q =
-          ap (λ (m : Bool). cond m (actions (e .actions)) (allowed rest h)) q
-          ∙ ih (missed-more front e h u q)
+      go : WithoutShadowed hs (front ++ e ∷ []) p rest → (b : Bool) → shadowed hs front e ≡ b → WithoutShadowed hs front (e ∷ p) (cond b rest (e ∷ rest))
+      go w true s = inr (shadowed-tells hs front e s, w)
+      go w false s = inl (rest, refl, w)
 
-  -- Theorem 33
   pub trimmed-allows : (p : List Entry) → Equivalent hs (trimmed hs p) p
-  trimmed-allows p h a = dropShadowed-allows [] (dropEmpty p) h a refl ∙ dropEmpty-allows p h
+  trimmed-allows p h a = withoutShadowed-allows [] (dropEmpty p) (trimmed hs p) (dropShadowed-without [] (dropEmpty p)) h a refl ∙ dropEmpty-allows p h
 
 -- ---- every entry left catches a header
 

@@ -8,6 +8,7 @@ pub mod Judged
 pub mod Crossproduct
 pub mod Lexicographic
 pub mod Merging
+pub mod Theorems
 pub mod Beside
 pub mod Keeping
 pub mod Pairs

@@ -19,7 +19,7 @@ use Rattle.policy.specs.Policy.{Allowed, allowed, isCaught, Covering, Refines, 
 use Rattle.policy.proofs.Bool.{clash}
 use Rattle.policy.proofs.Least.{agree, least-at, at-tells, none-tells}
 use Rattle.wire.specs.Format.{listLimit}
-use Rattle.reconcile.specs.Crossproduct.{In, Reconciles}
+use Rattle.reconcile.specs.Crossproduct.{AllCovering, Reconciles}
 use Rattle.reconcile.specs.Rules.{noHeader, same, isEmpty, inBoth, commonWith, commonActions, permits, allPermit, cross, dropEmpty, trimmed, Working, list, crowded, limited, next, nextAll, working, hasEmpty, lacking, conflictOf, needless, struckFrom, struck, Merging, refused, merged, finished, mergeOf}
 use Rattle.reconcile.proofs.Decide.{Witness, witness, noHeader-agree}
 use Rattle.reconcile.proofs.Common.{common-reconciles, common-widest, common-caught, common-permits}
@@ -172,7 +172,7 @@ module _ (hs : Headers) (p : List Entry) (ps : List (List Entry)) (m : List Entr
       (struck-needs hs (r .work) front d back (sym (r .left) ∙ q)))
 
   -- it is covering if all are
-  pub merged-covers : ((q : List Entry) → In q (p ∷ ps) → Covering hs q) → Covering hs m
+  pub merged-covers : AllCovering hs (p ∷ ps) → Covering hs m
   merged-covers f h a = ap isCaught (merged-allows h a) ∙ common-caught h p ps (λ q i. f q i h a)
 
   -- no header is left without an action
@@ -191,7 +191,7 @@ module _ (hs : Headers) (p : List Entry) (ps : List (List Entry)) (m : List Entr
       fewer a b c x y = omega arith
 
   -- and at least one, if there is a header and all lists are covering
-  pub merged-some : (h : Header) → among hs h ≡ true → ((q : List Entry) → In q (p ∷ ps) → Covering hs q) → 1 ≤ length m
+  pub merged-some : (h : Header) → among hs h ≡ true → AllCovering hs (p ∷ ps) → 1 ≤ length m
   merged-some h a f = go m (merged-covers f h a)
     where
       go : (l : List Entry) → isCaught (allowed l h) ≡ true → 1 ≤ length l

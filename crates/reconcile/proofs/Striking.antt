@@ -1,7 +1,7 @@
--- Rule 4: striking leaves what the list allows (Theorem 34), an entry can be struck exactly if it is shadowed or collected (36), and after the
--- pass from last to first none can. Assumes nothing.
+-- Rule 4: an entry can be struck exactly if it is collected, striking leaves what the list allows, and after the pass from last to first none can
+-- be struck. Assumes nothing.
 use mathlib.Core.Path.{_≡_, refl, sym, _∙_, ap, ap₂, subst}
-use mathlib.Core.Bool.{Bool, true, false, not, cond, _&&_, _||_}
+use mathlib.Core.Bool.{Bool, true, false, not, cond, _&&_}
 use mathlib.Core.List.{List, [], _∷_, _++_, append-assoc}
 use Rattle.policy.specs.declared.header.Header.{Header}
 use Rattle.policy.specs.declared.entry.Entry.{Entry}
@@ -10,7 +10,7 @@ use Rattle.policy.specs.Entry.{matches}
 use Rattle.policy.specs.Policy.{Allowed, actions, uncaught, allowed, isCaught, missed, Equivalent}
 use Rattle.policy.proofs.Bool.{clash, is-false, not-true, not-false, and-intro, and-left, and-right}
 use Rattle.policy.proofs.Policy.{orNext, allowed-append}
-use Rattle.reconcile.specs.Rules.{same, shadowed, Collected, collected, needless, struckFrom, struck}
+use Rattle.reconcile.specs.Rules.{same, Collected, collected, needless, struckFrom, struck}
 use Rattle.reconcile.proofs.Decide.{none-by, nowhere, witness, somewhere, noHeader-agree}
 use Rattle.reconcile.proofs.Common.{same-self, same-tells, same-by}
 use Rattle.reconcile.proofs.Drop.{missed-less, Each, each-wider, each-at}
@@ -61,28 +61,6 @@ module _ (hs : Headers) (front : List Entry) (e : Entry) (back : List Entry) whe
   needless-by q =
       none-by hs (λ h. not (same (allowed (front ++ back) h) (allowed (front ++ e ∷ back) h))) λ h a.
       ap not (same-by (allowed (front ++ back) h) (allowed (front ++ e ∷ back) h) (q h a))
-
-  -- a shadowed entry is collected
-  pub shadowed-collected : shadowed hs front e ≡ true → collected hs front e back ≡ true
-  shadowed-collected s = none-by hs (λ h. missed front h && Differs e back h) λ h a.
-      go (missed front h) (matches e h) (not (same (allowed back h) (actions (e .actions)))) (nowhere hs (λ h. missed front h && matches e h) s h a)
-    where
-      go : (u m d : Bool) → (u && m) ≡ false → (u && (m && d)) ≡ false
-      go true true d q = clash refl q
-      go true false d q = refl
-      go false m d q = refl
-
-  -- Theorem 34: a collected entry can be struck
-  pub theorem34 : Collected hs front e back → Equivalent hs (front ++ back) (front ++ e ∷ back)
-  theorem34 c = needless-tells (needless-is ∙ collected-by c)
-
-  -- Theorem 36: an entry can be struck exactly if it is shadowed or collected
-  pub theorem36 : needless hs front e back ≡ (shadowed hs front e || collected hs front e back)
-  theorem36 = needless-is ∙ go (shadowed hs front e) (collected hs front e back) shadowed-collected
-    where
-      go : (s c : Bool) → (s ≡ true → c ≡ true) → c ≡ (s || c)
-      go true c f = f refl
-      go false c f = refl
 
 -- ---- the pass
 

@@ -12,7 +12,7 @@ use Rattle.policy.specs.Box.{meet}
 use Rattle.policy.specs.Header.{arity, Headers}
 use Rattle.policy.specs.Actions.{shared}
 use Rattle.policy.specs.Entry.{selector, entry}
-use Rattle.policy.specs.Policy.{catcher, Refines}
+use Rattle.policy.specs.Policy.{catcher, Covering, Equivalent, Refines}
 use Rattle.wire.specs.Lists.{emptyEntry}
 
 -- x stands in the list
@@ -25,9 +25,25 @@ abbrev pub Distinct : {A : Type 0} → List A → Type 0
 Distinct [] = Unit {0}
 Distinct (x ∷ xs) = (In x xs → ⊥) × Distinct xs
 
--- Definition 14: r refines each of the policies
+-- each of the lists is a policy (Definition 1): covering
+abbrev pub AllCovering : Headers → List (List Entry) → Type 0
+AllCovering hs ps = (p : List Entry) → In p ps → Covering hs p
+
+-- r refines each of the lists
 abbrev pub Reconciles : Headers → List (List Entry) → List Entry → Type 0
 Reconciles hs ps r = (q : List Entry) → In q ps → Refines hs r q
+
+-- Definition 14: r is a policy that refines each of the lists. 004 says it of policies; here ps may be any lists, and `Reconciles` is of any list r
+pub record CorrectReconciliation (hs : Headers) (ps : List (List Entry)) (r : List Entry) : Type 0 where
+  pub covering : Covering hs r
+  pub reconciles : Reconciles hs ps r
+
+-- there are as many lists in both, and each is equivalent to the one at its place (Lemma 15)
+abbrev pub PairwiseEquivalent : Headers → List (List Entry) → List (List Entry) → Type 0
+PairwiseEquivalent hs [] [] = Unit {0}
+PairwiseEquivalent hs [] (q ∷ qs) = ⊥
+PairwiseEquivalent hs (p ∷ ps) [] = ⊥
+PairwiseEquivalent hs (p ∷ ps) (q ∷ qs) = Equivalent hs p q × PairwiseEquivalent hs ps qs
 
 -- selectors and action sets intersected
 abbrev pub both : Entry → Entry → Entry

@@ -1,6 +1,7 @@
 -- 01, "Merging": rules 1 to 4 over a set hs of headers, for the lists in force in rising number of their parties.
-use Prim.Native.Nat.{ℕ}
+use Prim.Native.Nat.{ℕ, zero, suc}
 use mathlib.Core.Path.{_≡_}
+use mathlib.Core.Logic.{_⊎_}
 use mathlib.Core.Bool.{Bool, true, false, not, cond, _&&_, _||_}
 use mathlib.Core.List.{List, [], _∷_, _++_, map}
 use lib.Dec.{leb, eqb}
@@ -75,11 +76,6 @@ abbrev pub cross : List Entry → List Entry → List Entry
 cross [] q = []
 cross (d ∷ p) q = map (both d) q ++ cross p q
 
--- p crossed with each next list in turn
-abbrev pub crossAll : List Entry → List (List Entry) → List Entry
-crossAll p [] = p
-crossAll p (q ∷ qs) = crossAll (cross p q) qs
-
 -- ---- rule 2
 
 -- without the entries that have an empty selector
@@ -94,6 +90,12 @@ Shadowed hs front e = (h : Header) → among hs h ≡ true → matches e h ≡ t
 -- the same as a test
 abbrev pub shadowed : Headers → List Entry → Entry → Bool
 shadowed hs front e = noHeader hs λ h. missed front h && matches e h
+
+-- q is p, behind front, without some of its shadowed entries (Theorem 33): each entry is kept, or shadowed by all that stood before it and removed
+abbrev pub WithoutShadowed : Headers → List Entry → List Entry → List Entry → Type 0
+WithoutShadowed hs front [] q = q ≡ []
+WithoutShadowed hs front (e ∷ p) q =
+    ((r : List Entry) × (q ≡ e ∷ r) × WithoutShadowed hs (front ++ e ∷ []) p r) ⊎ (Shadowed hs front e × WithoutShadowed hs (front ++ e ∷ []) p q)
 
 -- without the entries that catch no header; front stands before them
 abbrev pub dropShadowed : Headers → List Entry → List Entry → List Entry
@@ -151,6 +153,12 @@ Collected hs front e back =
 -- the same as a test
 abbrev pub collected : Headers → List Entry → Entry → List Entry → Bool
 collected hs front e back = noHeader hs λ h. missed front h && (matches e h && not (same (allowed back h) (actions (e .actions))))
+
+-- q is p after n entries were removed one by one, each collected in the list as it then stood (step 4 of Theorem 35)
+abbrev pub WithoutCollected : Headers → ℕ → List Entry → List Entry → Type 0
+WithoutCollected hs zero p q = q ≡ p
+WithoutCollected hs (suc n) p q =
+    (front : List Entry) × (e : Entry) × (back : List Entry) × (p ≡ front ++ e ∷ back) × Collected hs front e back × WithoutCollected hs n (front ++ back) q
 
 -- the list front, e, back allows every header the same without e
 abbrev pub needless : Headers → List Entry → Entry → List Entry → Bool

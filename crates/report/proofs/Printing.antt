@@ -9,7 +9,7 @@ use mathlib.Core.Option.{none, some}
 use lib.ListN.{length, take, drop, set, length-replicate, getD}
 use borrow.Author.Tests.{le-ltb}
 use Rattle.policy.specs.declared.entry.Entry.{Entry}
-use Rattle.policy.specs.declared.refusal.Refusal.the-variants.{Bare, Crowded, Conflict, Narrow}
+use Rattle.policy.specs.declared.refusal.Refusal.the-variants.{Narrow}
 use Rattle.policy.specs.Header.{headers}
 use Rattle.policy.specs.Refusals.{Answer, refusal, accepted, isAccepted, refuse, firstOf}
 use Rattle.policy.proofs.Refusals.{refusal-refuses}
@@ -18,6 +18,7 @@ use Rattle.wire.specs.Answers.{ifAccepted}
 use Rattle.wire.specs.Writing.{placed}
 use Rattle.wire.proofs.Records.{entries-fit}
 use Rattle.wire.specs.steps.Fits.{AllFit}
+use Rattle.reconcile.specs.Crossproduct.{AllCovering}
 use Rattle.reconcile.specs.Rules.{Merging, refused, merged, mergeOf}
 use Rattle.reconcile.specs.Ending.{endingOf}
 use Rattle.reconcile.proofs.Merging.{merged-few}
@@ -25,7 +26,7 @@ use Rattle.bench.specs.Book.{Book, emptyBook, inForce}
 use Rattle.bench.specs.Answers.{filingOf, mergingOf}
 use Rattle.bench.specs.Calls.{bookFrom, bookAfter}
 use Rattle.bench.specs.Demand3.{MergedList, Demand3}
-use Rattle.bench.proofs.Trace.{AllCovering, all-covering, EachSlot, in-force}
+use Rattle.bench.proofs.Trace.{all-covering, EachSlot, in-force}
 use Rattle.bench.proofs.Fitting.{reads-back}
 use Rattle.bench.proofs.Demand3.{merged-list-is, demand-3}
 use Rattle.report.specs.Text.{ascii, decimal, hex}
@@ -89,7 +90,7 @@ printed input h =
 pub printed-list : (input : List ℕ) (m : List Entry) → mergeOf headers (inForceAfter input) ≡ merged m → MergedList (inForceAfter input) m (length m)
 printed-list input m e = go (inForceAfter input) (all-covering (filingsOf input)) e
   where
-    go : (ps : List (List Entry)) → AllCovering ps → mergeOf headers ps ≡ merged m → MergedList ps m (length m)
+    go : (ps : List (List Entry)) → AllCovering headers ps → mergeOf headers ps ≡ merged m → MergedList ps m (length m)
     go [] c e = absurd (let z : _≡_ {A = ℕ} 0 1 = cc in omega arith)
     go (p ∷ ps) c e = merged-list-is p ps c m e
 
