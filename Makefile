@@ -7,7 +7,7 @@ ARCHIVE = target/staticlib/libgateway.a
 EXAMPLE = examples/clinic-maker-technician-firm.hex
 CARGO = cargo build --release --offline --locked --quiet --manifest-path outside/Cargo.toml
 
-.PHONY: run lookups test install bench measure-against clean archive
+.PHONY: run lookups test install measure measure-against clean archive
 
 # The program merges the shipped example; until the program is there, packets are looked up in one list of the example.
 ifneq ($(wildcard crates/merger/src),)
@@ -46,17 +46,17 @@ install: archive
 	    'Libs: -L$${libdir} -lgateway' 'Cflags: -I$${includedir}' \
 	    > $(DESTDIR)$(PREFIX)/lib/pkgconfig/dunnarek-policy.pc
 
-# Times beside Rust versions of the same jobs, and what the proofs take, as docs/BENCHMARKS.md; no part of the gate.
+# Times beside Rust versions of the same jobs, and what the proofs take, as docs/MEASUREMENTS.md; no part of the gate.
 # Proves every crate anew, which takes longest, or only those named by CHECKED. Cargo does not notice a new archive, so it starts from nothing.
 CHECKED =
-bench:
+measure:
 	mkdir -p target
 	outside/check_figures $(CHECKED) > target/checking.md
 	rt staticlib gateway
 	rt staticlib measured
 	rm -rf outside/target
-	$(CARGO) --features gateway,measured --bin bench
-	outside/target/release/bench docs/BENCHMARKS.md target/checking.md
+	$(CARGO) --features gateway,measured --bin measure
+	outside/target/release/measure docs/MEASUREMENTS.md target/checking.md
 
 # The product's times beside those of other archives, in one run: OLD is a copy of an earlier target/staticlib with both archives.
 measure-against:
