@@ -1,49 +1,51 @@
-# Needs the Rattle kit (rt), a C compiler and Python 3; `make test` also a C++ compiler and Cargo.
-VERSION = 0.1.0
+# README.md says what each command needs.
 PREFIX = /usr/local
 DESTDIR =
+INPUT = examples/clinic-maker-technician-firm.hex
 
+HEADER = include/dunnarek/policy.h
 ARCHIVE = target/staticlib/libgateway.a
-EXAMPLE = examples/clinic-maker-technician-firm.hex
+number = $(shell sed -n 's/^\#define POLICY_LIBRARY_$(1) //p' $(HEADER))
+VERSION = $(call number,MAJOR).$(call number,MINOR).$(call number,PATCH)
 CARGO = cargo build --release --offline --locked --quiet --manifest-path outside/Cargo.toml
 
-.PHONY: run lookups test install measure measure-against clean archive
+.PHONY: run program daemon test fuzz archive install measure measure-against clean
 
-# The program merges the shipped example; until the program is there, packets are looked up in one list of the example.
-ifneq ($(wildcard crates/merger/src),)
-run:
-	rt check merger
-	examples/to-bytes $(EXAMPLE) > target/example.bytes
-	target/bin/merger < target/example.bytes
+# Merges the lists of INPUT, a file of commented hexadecimal.
+run: program
+	@examples/to-bytes $(INPUT) > target/input.bytes
+	@target/bin/merger < target/input.bytes
 
-.PHONY: fuzz
-fuzz:
-	rt check merger replay
-	$(CARGO) --bin fuzz
-	outside/target/release/fuzz merger target/bin/merger
-	outside/target/release/fuzz replay target/bin/replay
-else
-run: lookups
-endif
+# The prover's notes stay in a log, and are shown where it refuses.
+program:
+	@mkdir -p target
+	@echo 'Proving and building the program, which takes some minutes the first time; notes in target/program.log' >&2
+	@rt check merger > target/program.log 2>&1 || { cat target/program.log >&2; exit 1; }
 
-# A C program with the library, answering lookups.
-lookups: archive
+# A C program with the library, answering lookups and a comparison.
+daemon: archive
 	$(CC) -std=c99 -O2 -Wall -Wextra -I include examples/daemon.c $(ARCHIVE) -o target/daemon
-	examples/lookups target/daemon
+	examples/run-daemon target/daemon
 
 test:
 	.ci/run
+
+fuzz: program
+	rt check replay
+	$(CARGO) --bin fuzz
+	outside/target/release/fuzz merger target/bin/merger
+	outside/target/release/fuzz replay target/bin/replay
 
 archive:
 	rt staticlib gateway
 
 install: archive
-	install -d $(DESTDIR)$(PREFIX)/lib/pkgconfig $(DESTDIR)$(PREFIX)/include
-	install -m 644 $(ARCHIVE) $(DESTDIR)$(PREFIX)/lib/libgateway.a
-	install -m 644 include/policy.h $(DESTDIR)$(PREFIX)/include/policy.h
+	install -d $(DESTDIR)$(PREFIX)/lib/pkgconfig $(DESTDIR)$(PREFIX)/include/dunnarek
+	install -m 644 $(ARCHIVE) $(DESTDIR)$(PREFIX)/lib/libdunnarek_policy.a
+	install -m 644 $(HEADER) $(DESTDIR)$(PREFIX)/include/dunnarek/policy.h
 	printf '%s\n' 'prefix=$(PREFIX)' 'libdir=$${prefix}/lib' 'includedir=$${prefix}/include' '' \
 	    'Name: dunnarek-policy' 'Description: Lookup in and comparison of IPsec policy lists' 'Version: $(VERSION)' \
-	    'Libs: -L$${libdir} -lgateway' 'Cflags: -I$${includedir}' \
+	    'Libs: -L$${libdir} -ldunnarek_policy' 'Cflags: -I$${includedir}' \
 	    > $(DESTDIR)$(PREFIX)/lib/pkgconfig/dunnarek-policy.pc
 
 # Times beside Rust versions of the same jobs, and what the proofs take, as docs/MEASUREMENTS.md; no part of the gate.
