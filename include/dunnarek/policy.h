@@ -14,7 +14,9 @@
  * is 0 is not read and may be NULL. Any other pointer must be to at least as many bytes as its
  * length says; the buffer of policy_compare must not overlap a file.
  *
- * A thread with a stack of POLICY_STACK_SIZE bytes is enough for both calls. The times below are of
+ * A thread with a stack of POLICY_STACK_SIZE bytes is enough for both calls. The most that was found
+ * is 39,216 bytes for a comparison and 4,600 for a lookup, of which a thread that does nothing takes
+ * 4,528; the frames of the deepest chain of calls add up to less than 54,000. The times below are of
  * one server's processor; docs/MEASUREMENTS.md has more.
  */
 #ifndef DUNNAREK_POLICY_H
