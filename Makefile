@@ -9,7 +9,7 @@ number = $(shell sed -n 's/^\#define POLICY_LIBRARY_$(1) //p' $(HEADER))
 VERSION = $(call number,MAJOR).$(call number,MINOR).$(call number,PATCH)
 CARGO = cargo build --release --offline --locked --quiet --manifest-path outside/Cargo.toml
 
-.PHONY: run program daemon test fuzz archive install measure measure-against clean
+.PHONY: run program daemon test replay fuzz archive install measure measure-against clean
 
 # Merges the lists of INPUT, a file of commented hexadecimal.
 run: program
@@ -17,10 +17,14 @@ run: program
 	@target/bin/merger < target/input.bytes
 
 # The prover's notes stay in a log, and are shown where it refuses.
-program:
+define prove
 	@mkdir -p target
-	@echo 'Proving and building the program, which takes some minutes the first time; notes in target/program.log' >&2
-	@rt check merger > target/program.log 2>&1 || { cat target/program.log >&2; exit 1; }
+	@echo 'Proving and building the $@, which takes some minutes the first time; notes in target/$@.log' >&2
+	@$(1) > target/$@.log 2>&1 || { cat target/$@.log >&2; exit 1; }
+endef
+
+program:
+	$(call prove,rt check merger)
 
 # A C program with the library, answering lookups and a comparison.
 daemon: archive
@@ -30,14 +34,16 @@ daemon: archive
 test:
 	.ci/run
 
-fuzz: program
-	rt check replay
+replay:
+	$(call prove,rt check replay)
+
+fuzz: program replay
 	$(CARGO) --bin fuzz
 	outside/target/release/fuzz merger target/bin/merger
 	outside/target/release/fuzz replay target/bin/replay
 
 archive:
-	rt staticlib gateway
+	$(call prove,rt staticlib gateway)
 
 install: archive
 	install -d $(DESTDIR)$(PREFIX)/lib/pkgconfig $(DESTDIR)$(PREFIX)/include/dunnarek
