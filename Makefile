@@ -1,62 +1,70 @@
-# Needs the Rattle kit (rt), a C compiler and Python 3; `make test` also a C++ compiler and Cargo.
-VERSION = 0.1.0
+# README.md says what each command needs.
 PREFIX = /usr/local
 DESTDIR =
+INPUT = examples/clinic-maker-technician-firm.hex
 
+HEADER = include/dunnarek/policy.h
 ARCHIVE = target/staticlib/libgateway.a
-EXAMPLE = examples/clinic-maker-technician-firm.hex
+number = $(shell sed -n 's/^\#define POLICY_LIBRARY_$(1) //p' $(HEADER))
+VERSION = $(call number,MAJOR).$(call number,MINOR).$(call number,PATCH)
 CARGO = cargo build --release --offline --locked --quiet --manifest-path outside/Cargo.toml
 
-.PHONY: run lookups test install bench measure-against clean archive
+.PHONY: run program daemon test replay fuzz archive install measure measure-against clean
 
-# The program merges the shipped example; until the program is there, packets are looked up in one list of the example.
-ifneq ($(wildcard crates/merger/src),)
-run:
-	rt check merger
-	examples/to-bytes $(EXAMPLE) > target/example.bytes
-	target/bin/merger < target/example.bytes
+# Merges the lists of INPUT, a file of commented hexadecimal.
+run: program
+	@examples/to-bytes $(INPUT) > target/input.bytes
+	@target/bin/merger < target/input.bytes
 
-.PHONY: fuzz
-fuzz:
-	rt check merger replay
-	$(CARGO) --bin fuzz
-	outside/target/release/fuzz merger target/bin/merger
-	outside/target/release/fuzz replay target/bin/replay
-else
-run: lookups
-endif
+# The prover's notes stay in a log, and are shown where it refuses.
+define prove
+	@mkdir -p target
+	@echo 'Proving and building the $@, which takes some minutes the first time; notes in target/$@.log' >&2
+	@$(1) > target/$@.log 2>&1 || { cat target/$@.log >&2; exit 1; }
+endef
 
-# A C program with the library, answering lookups.
-lookups: archive
+program:
+	$(call prove,rt check merger)
+
+# A C program with the library, answering lookups and a comparison.
+daemon: archive
 	$(CC) -std=c99 -O2 -Wall -Wextra -I include examples/daemon.c $(ARCHIVE) -o target/daemon
-	examples/lookups target/daemon
+	examples/run-daemon target/daemon
 
 test:
 	.ci/run
 
+replay:
+	$(call prove,rt check replay)
+
+fuzz: program replay
+	$(CARGO) --bin fuzz
+	outside/target/release/fuzz merger target/bin/merger
+	outside/target/release/fuzz replay target/bin/replay
+
 archive:
-	rt staticlib gateway
+	$(call prove,rt staticlib gateway)
 
 install: archive
-	install -d $(DESTDIR)$(PREFIX)/lib/pkgconfig $(DESTDIR)$(PREFIX)/include
-	install -m 644 $(ARCHIVE) $(DESTDIR)$(PREFIX)/lib/libgateway.a
-	install -m 644 include/policy.h $(DESTDIR)$(PREFIX)/include/policy.h
+	install -d $(DESTDIR)$(PREFIX)/lib/pkgconfig $(DESTDIR)$(PREFIX)/include/dunnarek
+	install -m 644 $(ARCHIVE) $(DESTDIR)$(PREFIX)/lib/libdunnarek_policy.a
+	install -m 644 $(HEADER) $(DESTDIR)$(PREFIX)/include/dunnarek/policy.h
 	printf '%s\n' 'prefix=$(PREFIX)' 'libdir=$${prefix}/lib' 'includedir=$${prefix}/include' '' \
 	    'Name: dunnarek-policy' 'Description: Lookup in and comparison of IPsec policy lists' 'Version: $(VERSION)' \
-	    'Libs: -L$${libdir} -lgateway' 'Cflags: -I$${includedir}' \
+	    'Libs: -L$${libdir} -ldunnarek_policy' 'Cflags: -I$${includedir}' \
 	    > $(DESTDIR)$(PREFIX)/lib/pkgconfig/dunnarek-policy.pc
 
-# Times beside Rust versions of the same jobs, and what the proofs take, as docs/BENCHMARKS.md; no part of the gate.
+# Times beside Rust versions of the same jobs, and what the proofs take, as docs/MEASUREMENTS.md; no part of the gate.
 # Proves every crate anew, which takes longest, or only those named by CHECKED. Cargo does not notice a new archive, so it starts from nothing.
 CHECKED =
-bench:
+measure:
 	mkdir -p target
 	outside/check_figures $(CHECKED) > target/checking.md
 	rt staticlib gateway
 	rt staticlib measured
 	rm -rf outside/target
-	$(CARGO) --features gateway,measured --bin bench
-	outside/target/release/bench docs/BENCHMARKS.md target/checking.md
+	$(CARGO) --features gateway,measured --bin measure
+	outside/target/release/measure docs/MEASUREMENTS.md target/checking.md
 
 # The product's times beside those of other archives, in one run: OLD is a copy of an earlier target/staticlib with both archives.
 measure-against:

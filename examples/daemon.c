@@ -1,11 +1,15 @@
 /*
- * A daemon's use of the library, as small as it can be: load a list, answer lookups.
+ * A daemon's use of the library, as small as it can be: load lists, answer lookups, compare.
  *
- *     daemon FILE LOCAL REMOTE LOCAL-PORT REMOTE-PORT PROTOCOL [LOCAL ...]
+ *     daemon lookup FILE LOCAL REMOTE LOCAL-PORT REMOTE-PORT PROTOCOL [LOCAL ...]
+ *     daemon compare FILE FILE
  *
- * Addresses are written 10.1.2.3, the other numbers in decimal; five words for each lookup. Prints a
- * line for each: the number of the catching entry and the action set of its record, or "uncaught".
- * Exit status: 0 all looked up, 1 the file is no list, 2 bad usage, 3 the file can't be read.
+ * Addresses are written 10.1.2.3, the other numbers in decimal; five words for each lookup. A lookup
+ * prints a line: the number of the catching entry and the actions of its record, the protections by
+ * their bits, or "uncaught".
+ * A comparison prints whether the first list refines the second, and if not, the least header where
+ * it doesn't. Exit status: 0 all answered, 1 a file is no list, 2 bad usage, 3 a file can't be read
+ * or the answer not written.
  *
  *     cc -std=c99 -I include examples/daemon.c target/staticlib/libgateway.a -o daemon
  */
@@ -14,13 +18,13 @@
 #include <stdlib.h>
 #include <string.h>
 
-#include "policy.h"
+#include <dunnarek/policy.h>
 
-enum {
-    HEAD_SIZE = 5,
-    RECORD_SIZE = 28,
-    LONGEST = HEAD_SIZE + 256 * RECORD_SIZE,
-    WORDS = 5
+#define WORDS 5 /* of a header */
+
+struct list {
+    size_t length;
+    uint8_t bytes[POLICY_LONGEST_FILE + 1]; /* one byte more shows that a file is too long */
 };
 
 /* Reads a number from 0 to most; returns 0 for anything else. */
@@ -58,39 +62,73 @@ static int read_address(const char *word, uint32_t *address)
     return 1;
 }
 
-/* Loads a whole file of at most LONGEST bytes; one byte more shows that it is longer. */
-static int load(const char *path, uint8_t *bytes, size_t *length)
+/* Loads a file; complains and returns 0 if it can't be read. */
+static int load(const char *path, struct list *list)
 {
     FILE *stream = fopen(path, "rb");
-    int failed;
+    int failed = stream == NULL;
 
-    if (stream == NULL)
-        return 0;
-    *length = fread(bytes, 1, LONGEST + 1, stream);
-    failed = ferror(stream);
-    if (fclose(stream) != 0)
-        failed = 1;
+    if (stream != NULL) {
+        list->length = fread(list->bytes, 1, sizeof list->bytes, stream);
+        failed = ferror(stream);
+        failed |= fclose(stream) != 0;
+    }
+    if (failed)
+        fprintf(stderr, "daemon: %s: %s\n", path, strerror(errno));
     return !failed;
 }
 
-static const char *refusal_word(uint32_t refusal)
+static const char *refusal_words(uint32_t refusal)
 {
     switch (refusal) {
     case POLICY_MISSIZED:
-        return "missized";
+        return "its length is not the one that it states";
     case POLICY_VERSION:
-        return "version";
+        return "its version is not 1";
     case POLICY_COUNT:
-        return "count";
+        return "its number of entries is not 1 to 256, or not the one that it has";
     case POLICY_CROSSED:
-        return "crossed";
+        return "an entry has a low above its high";
+    case POLICY_GAP:
+        return "some header is caught by no entry";
     default:
-        return "refused";
+        return "for a reason that this program doesn't know";
     }
 }
 
+/* Says why a file is refused; returns the exit status for it. */
+static int refuse(const char *path, uint32_t refusal)
+{
+    fprintf(stderr, "daemon: %s is no list: %s\n", path, refusal_words(refusal));
+    return 1;
+}
+
+static void print_actions(unsigned actions)
+{
+    const char *between = "";
+    int bit;
+
+    if (actions == 0)
+        printf("nothing");
+    if (actions & POLICY_DISCARD) {
+        printf("discard");
+        between = " or ";
+    }
+    if (actions & POLICY_BYPASS) {
+        printf("%sbypass", between);
+        between = " or ";
+    }
+    for (bit = 2; bit < 16; bit++) {
+        if (actions & POLICY_PROTECT(bit)) {
+            printf("%sprotect %d", between, bit);
+            between = " or ";
+        }
+    }
+    printf("\n");
+}
+
 /* Looks up the header of five words; returns the program's exit status so far. */
-static int answer(const uint8_t *file, size_t length, char **words)
+static int look_up(const char *path, const struct list *list, char **words)
 {
     uint32_t local, remote, entry;
     unsigned long local_port, remote_port, protocol;
@@ -103,44 +141,60 @@ static int answer(const uint8_t *file, size_t length, char **words)
                 words[0], words[1], words[2], words[3], words[4]);
         return 2;
     }
-    entry = policy_lookup(file, length, local, remote,
+    entry = policy_lookup(list->bytes, list->length, local, remote,
                           (uint16_t)local_port, (uint16_t)remote_port, (uint8_t)protocol);
-    if (entry > POLICY_UNCAUGHT) {
-        fprintf(stderr, "daemon: the file is no list: %s\n", refusal_word(entry - POLICY_UNCAUGHT));
-        return 1;
-    }
+    if (policy_lookup_refusal(entry) != 0)
+        return refuse(path, policy_lookup_refusal(entry));
     if (entry == POLICY_UNCAUGHT) {
         puts("uncaught");
         return 0;
     }
-    /* The action set is the last two bytes of the record. */
-    actions = file + HEAD_SIZE + (entry + 1) * RECORD_SIZE - 2;
-    printf("entry %lu actions 0x%02x%02x\n", (unsigned long)entry, actions[0], actions[1]);
+    actions = list->bytes + POLICY_ACTIONS_AT(entry);
+    printf("entry %lu: ", (unsigned long)entry);
+    print_actions(actions[0] * 256u + actions[1]);
+    return 0;
+}
+
+/* The exit status for a comparison of two loaded files. */
+static int compare(char **paths, const struct list *first, const struct list *second)
+{
+    uint8_t h[POLICY_HEADER_SIZE];
+    uint32_t answer = policy_compare(first->bytes, first->length, second->bytes, second->length,
+                                     h, sizeof h);
+
+    if (policy_compare_refusal(answer) != 0)
+        return refuse(paths[policy_compare_file(answer) - 1], policy_compare_refusal(answer));
+    if (answer == POLICY_REFINES) {
+        puts("refines");
+        return 0;
+    }
+    printf("does not refine at local %d.%d.%d.%d port %d, remote %d.%d.%d.%d port %d, protocol %d\n",
+           h[0], h[1], h[2], h[3], h[8] * 256 + h[9], h[4], h[5], h[6], h[7], h[10] * 256 + h[11], h[12]);
     return 0;
 }
 
 int main(int argc, char **argv)
 {
-    static uint8_t file[LONGEST + 1];
-    size_t length;
-    int at, status;
+    static struct list first, second;
+    int at, status = 0;
 
-    if (argc < 2 + WORDS || (argc - 2) % WORDS != 0) {
-        fprintf(stderr, "usage: daemon FILE LOCAL REMOTE LOCAL-PORT REMOTE-PORT PROTOCOL ...\n");
+    if (argc == 4 && strcmp(argv[1], "compare") == 0) {
+        if (!load(argv[2], &first) || !load(argv[3], &second))
+            return 3;
+        status = compare(argv + 2, &first, &second);
+    } else if (argc >= 3 + WORDS && (argc - 3) % WORDS == 0 && strcmp(argv[1], "lookup") == 0) {
+        if (!load(argv[2], &first))
+            return 3;
+        for (at = 3; at < argc && status == 0; at += WORDS)
+            status = look_up(argv[2], &first, argv + at);
+    } else {
+        fprintf(stderr, "usage: daemon lookup FILE LOCAL REMOTE LOCAL-PORT REMOTE-PORT PROTOCOL ...\n"
+                        "       daemon compare FILE FILE\n");
         return 2;
-    }
-    if (!load(argv[1], file, &length)) {
-        fprintf(stderr, "daemon: %s: %s\n", argv[1], strerror(errno));
-        return 3;
-    }
-    for (at = 2; at < argc; at += WORDS) {
-        status = answer(file, length, argv + at);
-        if (status != 0)
-            return status;
     }
     if (fflush(stdout) != 0) {
         fprintf(stderr, "daemon: standard output: %s\n", strerror(errno));
         return 3;
     }
-    return 0;
+    return status;
 }

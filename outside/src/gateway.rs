@@ -1,4 +1,4 @@
-//! The functions of libgateway.a (include/policy.h), called as the daemon calls them.
+//! The functions of libgateway.a (include/dunnarek/policy.h), called as the daemon calls them.
 
 use crate::entry::Header;
 

@@ -803,3 +803,42 @@ pub fn long_input(length: usize, random: &mut Random) -> Vec<u8> {
     input.truncate(length);
     input
 }
+
+/// An input of exactly `length` bytes whose last byte counts, if some input of that length has one:
+/// it ends with a filing, or where none fits with a party's number. Records of other filings and of
+/// bytes that are no list stand before that.
+pub fn input_to_the_last_byte(length: usize, random: &mut Random) -> Vec<u8> {
+    // A record has 3 bytes or more, except where the input ends.
+    if length < 4 {
+        return [1, 0, 0][..length].to_vec();
+    }
+    let record = |random: &mut Random| {
+        let n = *random.pick(&[1, 2, 5, 20, 32]);
+        let mut record = vec![];
+        filing(
+            random.between(1, 3) as u8,
+            &file(&realistic_list(n, Sets::With(4), random)),
+            &mut record,
+        );
+        record
+    };
+    let mut last = record(random);
+    if last.len() + 3 > length {
+        last = vec![random.between(1, 8) as u8];
+    }
+    // From the last record to the first.
+    let mut records = vec![last];
+    let mut rest = length - records[0].len();
+    while rest > 0 {
+        let mut next = record(random);
+        if next.len() + 3 > rest {
+            let [high, low] = (rest as u16 - 3).to_be_bytes();
+            next = vec![random.between(1, 8) as u8, high, low];
+            next.extend((3..rest).map(|_| random.next() as u8));
+        }
+        rest -= next.len();
+        records.push(next);
+    }
+    records.reverse();
+    records.concat()
+}

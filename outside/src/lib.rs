@@ -3,13 +3,13 @@
 pub mod baseline;
 pub mod calls;
 pub mod cells;
+pub mod clock;
 pub mod daemon_cases;
 pub mod deep;
 pub mod entry;
 #[cfg(feature = "gateway")]
 pub mod gateway;
 pub mod generate;
-pub mod measure;
 pub mod merge;
 pub mod model;
 pub mod page;

@@ -1,7 +1,7 @@
 //! Measures search, comparison, lookup and merging, and their stack, and writes a Markdown page:
-//! bench [PATH [CHECKING]]. The product's columns are filled as far as its archives are linked (see
+//! measure [PATH [CHECKING]]. The product's columns are filled as far as its archives are linked (see
 //! product.rs). CHECKING is a file with what is to be said of the proofs, put at the page's end.
-//! `bench rows` times the product's rows as they are asked for (see rows.rs).
+//! `measure rows` times the product's rows as they are asked for (see rows.rs).
 
 mod comparison;
 mod findings;
@@ -35,7 +35,7 @@ fn machine() -> String {
 fn introduction() -> String {
     format!(
         "# Measurements\n\n\
-         Written anew by `make bench`. Machine: {}. Times are processor time of one thread, the \
+         Written anew by `make measure`. Machine: {}. Times are processor time of one thread, the \
          least of several batches, the versions of a job in turn. Inputs come from the tests' \
          generator (outside/src/generate.rs) with fixed seeds.\n\n\
          - **product**: the proved code, called over its C interface.\n\

@@ -1,7 +1,7 @@
 //! The page's rows of the product alone, timed one at a time as they are asked for, so that two archives
 //! can be timed in turn (outside/compare_archives).
 
-use outside::measure::{batch, calls_for};
+use outside::clock::{batch, calls_for};
 use outside::product::Product;
 use std::io::Write;
 

@@ -1,7 +1,7 @@
 //! What one job takes: by the product, by its algorithm in Rust over the same bytes and over decoded
 //! structs, and by another method.
 
-use outside::measure::seconds;
+use outside::clock::seconds;
 use outside::page::{maybe_time, ratio, time};
 
 use crate::findings::Page;
