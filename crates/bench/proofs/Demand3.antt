@@ -27,6 +27,7 @@ use Rattle.reconcile.specs.Rules.{Working, list, crowded, working, Merging, ref
 use Rattle.reconcile.proofs.Decide.{Witness}
 use Rattle.reconcile.proofs.Common.{same-by, common-permits, common-caught, empty-permits, permits-empty}
 use Rattle.reconcile.proofs.Merging.{merged-permits, merged-reconciles, merged-widest, merged-irredundant, merged-covers, Conflicts, conflict-tells, conflict-made, conflict-some, accepted-when}
+use Rattle.reconcile.proofs.Theorems.{merged-crossproduct}
 use Rattle.wire.specs.Answers.{ifAccepted}
 use Rattle.wire.specs.Writing.{placed}
 use Rattle.wire.proofs.Records.{length-file}
@@ -54,9 +55,9 @@ module _ (p : List Entry) (ps : List (List Entry)) (covering : AllCovering heade
   merged-list-is = record {
     count = refl;
     exactly = λ h a k. merged-permits headers p ps m e k h a;
-    covering = merged-covers headers p ps m e covering;
-    reconciles = merged-reconciles headers p ps m e;
-    widest = λ q c r. merged-widest headers p ps m e q r;
+    correct = record { covering = merged-covers headers p ps m e covering; reconciles = merged-reconciles headers p ps m e };
+    widest = λ q c. merged-widest headers p ps m e q (c .reconciles);
+    crossproduct = λ ts x. merged-crossproduct headers (p ∷ ps) m ts e x;
     irredundant = λ front d back w. struck (front ++ back) (merged-irredundant headers p ps m e front d back w);
   }
     where

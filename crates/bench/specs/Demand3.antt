@@ -10,11 +10,11 @@ use Rattle.policy.specs.declared.header.Header.{Header}
 use Rattle.policy.specs.declared.entry.Entry.{Entry}
 use Rattle.policy.specs.declared.refusal.Refusal.the-variants.{Bare, Crowded, Conflict, Narrow}
 use Rattle.policy.specs.Header.{before, among, headers}
-use Rattle.policy.specs.Policy.{allowed, caught, Covering, Refines}
+use Rattle.policy.specs.Policy.{allowed, caught, Equivalent, Refines}
 use Rattle.policy.specs.Refusals.{Answer, refusal, accepted, isAccepted}
 use Rattle.wire.specs.Format.{listIn, fileSize, fileOf}
 use Rattle.wire.specs.Writing.{placed}
-use Rattle.reconcile.specs.Crossproduct.{Reconciles}
+use Rattle.reconcile.specs.Crossproduct.{CorrectReconciliation, Tuple, OrderedCrossproduct, entriesOf}
 use Rattle.reconcile.specs.Rules.{crowded, working, merged, mergeOf, permits, allPermit}
 
 -- no action is common to the header's first matches in all lists in force; action k is bit k
@@ -46,11 +46,12 @@ pub record MergedList (ps : List (List Entry)) (m : List Entry) (n : ℕ) : Type
   pub count : length m ≡ n
   -- it allows each header exactly the common actions
   pub exactly : (h : Header) → among headers h ≡ true → (k : ℕ) → permits k (allowed m h) ≡ allPermit k ps h
-  -- it is a policy, and refines each list in force
-  pub covering : Covering headers m
-  pub reconciles : Reconciles headers ps m
+  -- it is covering and refines each list in force
+  pub correct : CorrectReconciliation headers ps m
   -- every other covering list that refines all lists in force refines it
-  pub widest : (q : List Entry) → Covering headers q → Reconciles headers ps q → Refines headers q m
+  pub widest : (q : List Entry) → CorrectReconciliation headers ps q → Refines headers q m
+  -- it is equivalent to every ordered crossproduct of the lists in force (Definitions 17, 18, 23 and 24)
+  pub crossproduct : (ts : List Tuple) → OrderedCrossproduct ps ts → Equivalent headers m (entriesOf ps ts)
   -- striking any one of its entries leaves some header uncaught or allowed a different set
   pub irredundant : (front : List Entry) (e : Entry) (back : List Entry) → m ≡ front ++ e ∷ back
       → (h : Header) × (among headers h ≡ true) × ((caught (front ++ back) h ≡ false) ⊎ (allowed (front ++ back) h ≡ allowed m h → ⊥))

@@ -1,10 +1,11 @@
--- Lookup in a file (01, "Lookup and comparison").
+-- Lookup in a file and in a table (01, "Lookup and comparison").
 use Prim.Native.Nat.{ℕ, _+_, _*_}
 use mathlib.Core.Bool.{cond}
 use mathlib.Core.List.{List, [], _∷_}
 use lib.ListN.{take, drop}
 use denote.Ref.{RefT, now}
 use Rattle.policy.specs.declared.header.Header.{Header}
+use Rattle.policy.specs.declared.entry.Entry as entry
 use Rattle.policy.specs.declared.entry.Caught.{Caught}
 use Rattle.policy.specs.declared.entry.Caught.the-variants.{By}
 use Rattle.policy.specs.declared.entry.Caught.the-variants as catch
@@ -29,6 +30,14 @@ looked (Refused r) = refusal r
 -- lookup: checks 1 to 4 of a file of up to 256 entries, then Definition 3 over the list that the file holds
 abbrev pub lookupOf : List ℕ → Header → Answer
 lookupOf s h = firstOf (fileChecks s listLimit) (accepted (caughtValues (catcher (listIn s) h)))
+
+-- the answer of a lookup in a table in 01's terms: the entry's number, and nothing for "uncaught"
+abbrev pub caughtAnswer : Caught → Answer
+caughtAnswer c = accepted (caughtValues c)
+
+-- lookup in a table: Definition 3 over its entries
+abbrev pub tableLookupOf : List entry.Entry → Header → Answer
+tableLookupOf p h = caughtAnswer (catcher p h)
 
 -- a part of a slice: where it starts, and how many bytes it has
 pub record Part : Type 0 where

@@ -4,11 +4,11 @@ use policy::entry::Entry;
 use policy::entry::matches_header;
 use policy::header::Header;
 ghost use mathlib.Core.Path.{_≡_};
-ghost use Rattle.policy.specs.Policy.{catcher};
+ghost use Rattle.lookup.specs.Lookup.{caughtAnswer, tableLookupOf};
 
 // The first entry of the table that matches h (Definition 3 of 004).
 pub fn lookup_table(table: &[Entry], h: Header) -> Caught
-    ensures { λ r. ⌜ r ≡ catcher (now (table .entry)) h ⌝ }
+    ensures { λ r. ⌜ caughtAnswer r ≡ tableLookupOf (now (table .entry)) h ⌝ }
 {
     let mut i = 0;
     while i < table.len() {

@@ -1,9 +1,8 @@
--- The number that a lookup in a table answers.
+-- The number that stands for the answer of a lookup in a table.
 use Prim.Native.Nat.{ℕ}
-use Rattle.policy.specs.declared.entry.Caught.{Caught}
-use Rattle.policy.specs.declared.entry.Caught.the-variants.{By, Uncaught}
+use lib.ListN.{getD}
+use Rattle.policy.specs.Refusals.{Answer}
 
 -- the entry's, 256 for none
-abbrev pub caughtNumber : Caught → ℕ
-caughtNumber (By i) = i
-caughtNumber Uncaught = 256
+abbrev pub caughtNumber : Answer → ℕ
+caughtNumber a = getD (a .values) 0 256

@@ -5,7 +5,7 @@ use policy::entry::Entry;
 use policy::header::Header;
 ghost use mathlib.Core.Path.{_≡_};
 ghost use Rattle.policy.specs.Header.{header};
-ghost use Rattle.policy.specs.Policy.{catcher};
+ghost use Rattle.lookup.specs.Lookup.{caughtAnswer, tableLookupOf};
 ghost use Rattle.measured.specs.Caught.{caughtNumber};
 
 // The header of five numbers.
@@ -23,7 +23,7 @@ fn header_of(local: u32, remote: u32, local_port: u16, remote_port: u16, protoco
 
 // The number of an entry, 256 for none.
 fn number_of(c: Caught) -> usize
-    ensures { λ r. ⌜ r ≡ caughtNumber c ⌝ }
+    ensures { λ r. ⌜ r ≡ caughtNumber (caughtAnswer c) ⌝ }
 {
     match c {
         Caught::By(i) => i,
@@ -41,7 +41,7 @@ pub extern "C" fn measured_table(
     remote_port: u16,
     protocol: u8,
 ) -> usize
-    ensures { λ r. ⌜ r ≡ caughtNumber (catcher (now (table .entry)) (header (local, (remote, («local_port», («remote_port», (protocol, tt))))))) ⌝ }
+    ensures { λ r. ⌜ r ≡ caughtNumber (tableLookupOf (now (table .entry)) (header (local, (remote, («local_port», («remote_port», (protocol, tt))))))) ⌝ }
 {
     number_of(lookup_table(
         table,

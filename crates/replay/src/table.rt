@@ -7,12 +7,12 @@ use policy::header::Header;
 ghost use mathlib.Core.Path.{_≡_};
 ghost use Prim.Native.Nat.{_≤_};
 ghost use lib.ListN.{take};
-ghost use Rattle.policy.specs.Policy.{catcher};
+ghost use Rattle.lookup.specs.Lookup.{caughtAnswer, tableLookupOf};
 
 // The answer of a lookup in a table of the first n entries.
 pub(crate) fn look_up(entries: [Entry; TABLE_LIMIT], n: usize, h: Header) -> Caught
     requires { ⌜ n ≤ 512 ⌝ }
-    ensures { λ r. ⌜ r ≡ catcher (take n entries) h ⌝ }
+    ensures { λ r. ⌜ caughtAnswer r ≡ tableLookupOf (take n entries) h ⌝ }
 {
     lookup_table(&entries[0..n], h)
 }

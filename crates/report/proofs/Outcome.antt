@@ -19,7 +19,10 @@ use Rattle.reconcile.specs.Ending.{answerOf}
 use Rattle.bench.specs.declared.calls.MergeAnswer.{MergeAnswer}
 use Rattle.bench.specs.declared.calls.MergeAnswer.the-variants.{Merged, Refused}
 use Rattle.bench.specs.Book.{Book, inForce}
+use Rattle.bench.specs.declared.calls.Bench.{Bench}
 use Rattle.bench.specs.Answers.{mergedAs, mergingOf}
+use Rattle.bench.specs.Held.{bookOf}
+use Rattle.bench.specs.Calls.{merging, Result, resultOf}
 use Rattle.report.specs.Text.{ascii, decimal, Printed}
 use Rattle.report.specs.Report.{refusedLine, recordLines, mergingLines}
 use Rattle.report.proofs.Buffer.{same}
@@ -38,7 +41,13 @@ count-fits (merged m) n l buffer e = go (ltb (length buffer) (fileSize (length m
         small n k size p q = omega arith
 
 -- the answer of a merging and its file, as the contract has them
-module _ (a : MergeAnswer) (file : List ℕ) (k : Book) (buffer : List ℕ) (e : _≡_ {A = Answer × List ℕ} (mergedAs a, file) (mergingOf k buffer)) where
+module _ (a : MergeAnswer) (r b : Bench) (file buffer : List ℕ) (c : _≡_ {A = Result} (mergedAs a, r, file) (resultOf b (merging buffer))) where
+  abbrev k : Book
+  k = bookOf b
+
+  e : _≡_ {A = Answer × List ℕ} (mergedAs a, file) (mergingOf k buffer)
+  e = λ i. (c i .0, c i .2)
+
   pub merged-fits : (n l : ℕ) → a ≡ Merged n l → length file ≡ length buffer → fileSize n ≤ length file
   merged-fits n l m s = omega (arith, count-fits (mergeOf headers (inForce k)) n l buffer (sym (ap mergedAs m) ∙ ap (λ (x : Answer × List ℕ). x .0) e))
 

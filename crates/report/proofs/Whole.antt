@@ -9,6 +9,7 @@ use mathlib.Core.List.{List, _++_}
 use lib.ListN.{length, take, drop}
 use lib.Seq.{take-all, take-at}
 use borrow.Author.Tests.{lt-ltb, le-ltb}
+use Rattle.policy.proofs.Conjunctions.{paired}
 use Rattle.wire.specs.Format.{Bytes}
 use Rattle.bench.specs.declared.calls.Bench.{Bench}
 use Rattle.bench.specs.Book.{Book}
@@ -42,9 +43,10 @@ whole {out} {after} {next} s p h =
     ∙ take-at s (drop (0 + length s) out) (length s) refl
 
 pub reported : {out after : List ℕ} {next : ℕ} (input : List ℕ) → Bytes input → Printed out 0 (reportOf input) after next
-    → ((after ≡ withText out 0 (reportOf input)) × (next ≡ min (length (reportOf input)) (length out))) × (reportSize ≤ length out → take next after ≡ reportOf input)
+    → _≡_ {A = ℕ × List ℕ} (next, after) (min (length (reportOf input)) (length out), withText out 0 (reportOf input))
+    × (reportSize ≤ length out → take next after ≡ reportOf input)
 reported {out} input b p = (
-  (p .contents, p .end ∙ ap (λ (n : ℕ). min n (length out)) (zero-add (length (reportOf input)))),
+  paired (p .end ∙ ap (λ (n : ℕ). min n (length out)) (zero-add (length (reportOf input)))) (p .contents),
   λ h. whole (reportOf input) p (long (length (reportOf input)) (length out) (report-fits input b) h),
 )
   where

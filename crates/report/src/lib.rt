@@ -10,7 +10,8 @@ use crate::filings::put_filings;
 use crate::merging::put_merging;
 use crate::text::put;
 ghost use mathlib.Core.Path.{_≡_};
-ghost use Prim.Native.Nat.{_≤_, min};
+ghost use mathlib.Core.List.{List};
+ghost use Prim.Native.Nat.{ℕ, _≤_, min};
 ghost use lib.ListN.{length, take};
 ghost use Rattle.report.specs.Text.{withText};
 ghost use Rattle.report.specs.Report.{reportOf, reportSize};
@@ -23,7 +24,8 @@ pub const REPORT_SIZE: usize = 932149;
 
 // Puts as much of the report at the start of the lent buffer as there is room for, and answers how much that is.
 pub fn report(input: &[u8], out: &mut [u8]) -> usize
-    ensures { λ r. ⌜ (now (out .exit) ≡ withText (now (out .entry)) 0 (reportOf (now (input .entry)))) × (r ≡ min (length (reportOf (now (input .entry)))) (length (now (out .entry)))) ⌝ }
+    ensures { λ r. ⌜ _≡_ {A = ℕ × List ℕ} (r, now (out .exit))
+        (min (length (reportOf (now (input .entry)))) (length (now (out .entry))), withText (now (out .entry)) 0 (reportOf (now (input .entry)))) ⌝ }
     ensures whole { λ r. ⌜ (reportSize ≤ length (now (out .entry)) → take r (now (out .exit)) ≡ reportOf (now (input .entry))) ⌝ }
 {
     if INPUT_LIMIT < input.len() {

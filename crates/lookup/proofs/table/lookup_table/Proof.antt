@@ -59,6 +59,7 @@ use Rattle.policy.specs.declared.entry.Caught.{Caught}
 use Rattle.policy.specs.declared.entry.Caught.the-variants.{By, Uncaught}
 use Rattle.policy.specs.Entry.{matches}
 use Rattle.policy.specs.Policy.{catcher}
+use Rattle.lookup.specs.Lookup.{caughtAnswer, tableLookupOf}
 use Rattle.wire.specs.Lists.{emptyEntry}
 use Rattle.policy.proofs.entry.Entry as TEntry
 use Rattle.policy.proofs.entry.Entry.Laws as TEntry′
@@ -189,8 +190,8 @@ module _ {M : Type 1} (𝓤 : URA M) (H : Heap 𝓤) (A : Atoms 𝓤) (W : Given
   abbrev val : Caught → Val
   val = EnumLaws.val TCaught.the-type TCaught′.the-laws
 
-  -- an answer that is the catcher meets the contract
-  exits : (r : Caught) → Is TCaught.the-row r (val r ∷ []) → r ≡ catcher p h → ent 𝓤 (⋆ 𝓤 H A (‵ (flft κ q) ∷ ‵ S ∷ ‵ Hs ∷ [])) (Post (val r))
+  -- an answer that names the catcher meets the contract
+  exits : (r : Caught) → Is TCaught.the-row r (val r ∷ []) → caughtAnswer r ≡ tableLookupOf p h → ent 𝓤 (⋆ 𝓤 H A (‵ (flft κ q) ∷ ‵ S ∷ ‵ Hs ∷ [])) (Post (val r))
   exits r g e =
       qed W (‵ (flft κ q) ∷ ‵ S ∷ ‵ Hs ∷ []) ∵
       suffices ! _ (ends-at 𝓤 H A this.ended stayed (this.clauses 𝓤 H A mem run) W (((κ, tt), (q, tt), tt, x, vals), tt) (val r) r (tt, (tt, tt)) (tt, (tt, tt))) $ says ! e $
@@ -253,7 +254,7 @@ module _ {M : Type 1} (𝓤 : URA M) (H : Heap 𝓤) (A : Atoms 𝓤) (W : Given
     Turned i = afterTurn 𝓤 H (Below 𝓤 H A Nearer At i) (afterBlock 𝓤 H (afterSeq 𝓤 H (Wp 𝓤 H C Λ En rest (atReturn 𝓤 H En Post)) (atReturn 𝓤 H En Post)))
 
     -- the locals are freed, and the function returns r
-    frees-all : (r : Caught) → Is TCaught.the-row r (val r ∷ []) → r ≡ catcher p h
+    frees-all : (r : Caught) → Is TCaught.the-row r (val r ∷ []) → caughtAnswer r ≡ tableLookupOf p h
         → Sq W (‵ (flft κ q) ∷ ‵ S ∷ ‵ Hs ∷ ‵ (froom EntryTy l₈ 0) ∷ ‵ (fdies EntryTy l₈) ∷ ‵ (froom tyPtr l₇ 0) ∷ ‵ (fdies tyPtr l₇) ∷ ‵ (froom tyBool l₆ 0) ∷ ‵ (fdies tyBool l₆)
         ∷ ‵ (froom tyBool l₅ 0) ∷ ‵ (fdies tyBool l₅) ∷ ‵ (froom word l₄ 0) ∷ ‵ (fdies word l₄) ∷ ‵ (froom word l₃ 0) ∷ ‵ (fdies word l₃)
         ∷ ‵ (froom HeaderTy l₂ 0) ∷ ‵ (fdies HeaderTy l₂) ∷ ‵ (froom SliceTy l₁ 0) ∷ ‵ (fdies SliceTy l₁) ∷ ‵ (froom CaughtTy l₀ 0) ∷ ‵ (fdies CaughtTy l₀) ∷ []) (frees En (prop (Post (val r))))
@@ -300,7 +301,7 @@ module _ {M : Type 1} (𝓤 : URA M) (H : Heap 𝓤) (A : Atoms 𝓤) (W : Given
         (λ hit. assigns ! (agg ! (and-then ! (lit ! tt) (and-then ! (load ! (from ! (stop !)) (look ! 13 refl)) (no-more !)))) (from ! (stop !))
         (init ! 19 refl (EnumLaws.lawful TCaught.the-type TCaught′.the-laws 𝓤 H A W tt .typed (By (i .0)) (val (By (i .0)) ∷ []) (made-by (i .0) (fits i)) .0)) $
         returns-within ! Post refl (look ! 19 refl) $ forget ! 3 refl $ forget ! 5 refl $ forget ! 7 refl $ forget ! 9 refl $ forget ! 11 refl $ forget ! 13 refl $ forget ! 15 refl $ forget ! 17 refl $ forget ! 19 refl $
-        frees-all (By (i .0)) (made-by (i .0) (fits i)) (matched p h (i .0) emptyEntry (elem (i .0)) (below less) refl (i .1 .1) (sym e ∙ is-true r hit)))
+        frees-all (By (i .0)) (made-by (i .0) (fits i)) (ap caughtAnswer (matched p h (i .0) emptyEntry (elem (i .0)) (below less) refl (i .1 .1) (sym e ∙ is-true r hit))))
         -- it does not: i += 1, and the next turn
         (λ miss. skips ! $ exec ! C Λ En step (anyQ (Turned i)) $
         assigns-last ! (bin ! (load ! (from ! (stop !)) (look ! 13 refl)) (lit ! tt) (record { fits = fits (next less r e miss) })) (from ! (stop !)) (store ! 13 refl (tt, record { fits = fits (next less r e miss) })) $
@@ -310,7 +311,7 @@ module _ {M : Type 1} (𝓤 : URA M) (H : Heap 𝓤) (A : Atoms 𝓤) (W : Given
         (λ over. jumps ! $ exec ! C Λ En rest (atRet En Post) $
         assigns ! (agg ! (and-then ! (lit ! tt) (no-more !))) (from ! (stop !)) (init ! 19 refl (EnumLaws.lawful TCaught.the-type TCaught′.the-laws 𝓤 H A W tt .typed Uncaught (val Uncaught ∷ []) made-uncaught .0)) $
         returns ! (look ! 19 refl) $ forget ! 9 refl $ forget ! 11 refl $ forget ! 13 refl $ forget ! 15 refl $ forget ! 17 refl $ forget ! 19 refl $
-        frees-all Uncaught made-uncaught (ended p h (i .0) (nltb→le (i .0) (length p) over) (i .1 .1)))
+        frees-all Uncaught made-uncaught (ap caughtAnswer (ended p h (i .0) (nltb→le (i .0) (length p) over) (i .1 .1))))
       where
         fits : (j : Upto) → j .0 < 2 ^ 64
         fits j = lt-of-le-of-lt (j .1 .0) (room .0)

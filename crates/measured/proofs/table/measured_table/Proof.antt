@@ -41,7 +41,7 @@ use Rattle.policy.specs.declared.header.Header.{Header}
 use Rattle.policy.specs.declared.entry.Entry.{Entry}
 use Rattle.policy.specs.declared.entry.Caught.{Caught}
 use Rattle.policy.specs.Header.{header}
-use Rattle.policy.specs.Policy.{catcher}
+use Rattle.lookup.specs.Lookup.{caughtAnswer, tableLookupOf}
 use Rattle.policy.proofs.entry.Entry as TEntry
 use Rattle.policy.proofs.header.Header as THeader
 use Rattle.policy.proofs.header.Header.Laws as THeader′
@@ -84,8 +84,8 @@ module _ {M : Type 1} (𝓤 : URA M) (H : Heap 𝓤) (A : Atoms 𝓤) (mem : Mem
   abbrev Number : Contract 𝓤
   Number = tripleOf 𝓤 H A number.signature (number.spec 𝓤 H A mem run)
 
-  number-said : (c : Caught) (n : ℕ) → ent 𝓤 (ensured 𝓤 H A number.ended (number.clauses 𝓤 H A mem run) tt (c, tt) tt n) (fact 𝓤 (n ≡ caughtNumber c))
-  number-said c n = exE 𝓤 _ (λ ws. snd∗ 𝓤 (sem 𝓤 H A (lasts number.ended tt (c, tt) ws)) (fact 𝓤 (n ≡ caughtNumber c)))
+  number-said : (c : Caught) (n : ℕ) → ent 𝓤 (ensured 𝓤 H A number.ended (number.clauses 𝓤 H A mem run) tt (c, tt) tt n) (fact 𝓤 (n ≡ caughtNumber (caughtAnswer c)))
+  number-said c n = exE 𝓤 _ (λ ws. snd∗ 𝓤 (sem 𝓤 H A (lasts number.ended tt (c, tt) ws)) (fact 𝓤 (n ≡ caughtNumber (caughtAnswer c))))
 
 -- ---- the walk, over a table p that lies at (b, o) and is lent for κ, and five numbers
 
@@ -120,7 +120,7 @@ module _ {M : Type 1} (𝓤 : URA M) (H : Heap 𝓤) (A : Atoms 𝓤) (W : Given
   abbrev Numbers : Fml
   Numbers = owns (u32 ∷ u32 ∷ u16 ∷ u16 ∷ u8 ∷ []) (n₁, (n₂, (n₃, (n₄, (n₅, tt))))) numbers
 
-  exits : (n : ℕ) (v : Val) → n ≡ caughtNumber (catcher p h₀) → ent 𝓤 (⋆ 𝓤 H A (‵ (usize .own n (v ∷ [])) ∷ (‵ (flft κ q) ⊛ ‵ ftrue) ∷ ‵ S ∷ [])) (Post v)
+  exits : (n : ℕ) (v : Val) → n ≡ caughtNumber (tableLookupOf p h₀) → ent 𝓤 (⋆ 𝓤 H A (‵ (usize .own n (v ∷ [])) ∷ (‵ (flft κ q) ⊛ ‵ ftrue) ∷ ‵ S ∷ [])) (Post v)
   exits n v e =
       qed W (‵ (usize .own n (v ∷ [])) ∷ (‵ (flft κ q) ⊛ ‵ ftrue) ∷ ‵ S ∷ []) ∵
       suffices ! _ (ends-at 𝓤 H A this.ended stayed (this.clauses 𝓤 H A mem run) W (((κ, tt), (q, tt), tt, x, vals), tt) v n (tt, (tt, (tt, (tt, (tt, (tt, tt)))))) (tt, (tt, (tt, (tt, (tt, (tt, tt))))))) $ says ! e $
@@ -149,8 +149,8 @@ module _ {M : Type 1} (𝓤 : URA M) (H : Heap 𝓤) (A : Atoms 𝓤) (W : Given
   goes-find : (h : Header) (u : Val) → ent 𝓤 (onEntry 𝓤 H A find.signature (κ, tt) (q, tt) (t, (h, tt)) (found h u)) (Find 𝓤 H A mem run .pre (to-find h u))
   goes-find h u = qed W ((‵ (flft κ q) ⊛ ‵ ftrue) ∷ ‵ (owns (ShrSlice (named 0) κ R ∷ THeader.the-row ∷ []) (t, (h, tt)) (found h u)) ∷ []) ∵ join ! $ frame ! $ done !
 
-  find-said : (h : Header) (c : Caught) → ent 𝓤 (ensured 𝓤 H A find.ended (find.clauses 𝓤 H A mem run) (κ, tt) (t, (h, tt)) tt c) (fact 𝓤 (c ≡ catcher p h))
-  find-said h c = exE 𝓤 _ (λ ws. snd∗ 𝓤 (sem 𝓤 H A (lasts find.ended (κ, tt) (t, (h, tt)) ws)) (fact 𝓤 (c ≡ catcher p h)))
+  find-said : (h : Header) (c : Caught) → ent 𝓤 (ensured 𝓤 H A find.ended (find.clauses 𝓤 H A mem run) (κ, tt) (t, (h, tt)) tt c) (fact 𝓤 (caughtAnswer c ≡ tableLookupOf p h))
+  find-said h c = exE 𝓤 _ (λ ws. snd∗ 𝓤 (sem 𝓤 H A (lasts find.ended (κ, tt) (t, (h, tt)) ws)) (fact 𝓤 (caughtAnswer c ≡ tableLookupOf p h)))
 
   -- the call of `number_of`
   abbrev to-number : Caught → Val → Number 𝓤 H A mem run .Ghost
@@ -186,7 +186,7 @@ module _ {M : Type 1} (𝓤 : URA M) (H : Heap 𝓤) (A : Atoms 𝓤) (W : Given
         -- _7 = lookup_table(_1, _8)
         calls-at ! fm (Find 𝓤 H A mem run) known-find (to-find h u) (and-then ! (load ! (from ! (stop !)) (look ! 16 refl)) (and-then ! (load ! (from ! (stop !)) (look ! 2 refl)) (no-more !))) (λ v.
         use1 W (later (some (λ (c : Caught). ((‵ (flft κ q) ⊛ ‵ ftrue) ⊛ ‵ (TCaught.the-row .own c (v ∷ []))) ⊛ raw (ensured 𝓤 H A find.ended (find.clauses 𝓤 H A mem run) (κ, tt) (t, (h, tt)) tt c)))) (id⊢ 𝓤 _) $ await ! tt $ pick ! (λ c.
-        split ! $ move ! (1 ∷ []) $ use1 W (raw (fact 𝓤 (c ≡ catcher p h))) (find-said h c) $ heard ! (c ≡ catcher p h) (λ e₂. split ! $ move ! (1 ∷ []) $
+        split ! $ move ! (1 ∷ []) $ use1 W (raw (fact 𝓤 (caughtAnswer c ≡ tableLookupOf p h))) (find-said h c) $ heard ! (caughtAnswer c ≡ tableLookupOf p h) (λ e₂. split ! $ move ! (1 ∷ []) $
         peeks ! TCaught.the-row (Is TCaught.the-row) (shows 𝓤 H A TCaught.the-row) c (v ∷ []) (λ is′.
         -- [what the answer owns; the token; S; _8; …; _0]
         land ! (from ! (stop !)) (init ! 5 refl (EnumLaws.lawful TCaught.the-type TCaught′.the-laws 𝓤 H A W tt .typed c _ is′ .0)) $
@@ -194,14 +194,14 @@ module _ {M : Type 1} (𝓤 : URA M) (H : Heap 𝓤) (A : Atoms 𝓤) (W : Given
         -- _0 = number_of(_7)
         calls-at ! fm (Number 𝓤 H A mem run) known-number (to-number c v) (and-then ! (load ! (from ! (stop !)) (look ! 5 refl)) (no-more !)) (λ w.
         use1 W (later (some (λ (n : ℕ). (‵ ftrue ⊛ ‵ (usize .own n (w ∷ []))) ⊛ raw (ensured 𝓤 H A number.ended (number.clauses 𝓤 H A mem run) tt (c, tt) tt n)))) (id⊢ 𝓤 _) $ await ! tt $ pick ! (λ n.
-        split ! $ move ! (1 ∷ []) $ use1 W (raw (fact 𝓤 (n ≡ caughtNumber c))) (number-said 𝓤 H A mem run c n) $ heard ! (n ≡ caughtNumber c) (λ e₃. split ! $ drop ! $
+        split ! $ move ! (1 ∷ []) $ use1 W (raw (fact 𝓤 (n ≡ caughtNumber (caughtAnswer c)))) (number-said 𝓤 H A mem run c n) $ heard ! (n ≡ caughtNumber (caughtAnswer c)) (λ e₃. split ! $ drop ! $
         peeks ! usize (Is usize) (shows 𝓤 H A usize) n (w ∷ []) (λ is″.
         -- [what the number owns; the token; S; _8; …; _0]
         land ! (from ! (stop !)) (init ! 19 refl (uint-lawful 𝓤 H A W w64 .typed n _ is″ .0)) $
         returns ! (look ! 19 refl) $ forget ! 3 refl $ forget ! 5 refl $ forget ! 7 refl $ forget ! 9 refl $ forget ! 11 refl $ forget ! 13 refl $ forget ! 15 refl $ forget ! 17 refl $ forget ! 19 refl $
         move ! (19 ∷ 20 ∷ []) $ free1 ! $ move ! (17 ∷ 18 ∷ []) $ free1 ! $ move ! (15 ∷ 16 ∷ []) $ free1 ! $ move ! (13 ∷ 14 ∷ []) $ free1 ! $ move ! (11 ∷ 12 ∷ []) $ free1 ! $
         move ! (9 ∷ 10 ∷ []) $ free1 ! $ move ! (7 ∷ 8 ∷ []) $ free1 ! $ move ! (5 ∷ 6 ∷ []) $ free1 ! $ move ! (3 ∷ 4 ∷ []) $ free1 ! $ free0 ! $
-        by ! (exits n w (e₃ ∙ ap caughtNumber (e₂ ∙ ap (catcher p) e₁))))))))))))))))))))))))
+        by ! (exits n w (e₃ ∙ ap caughtNumber (e₂ ∙ ap (tableLookupOf p) e₁))))))))))))))))))))))))
 
 -- ---- the walk is what the statement asks for
 

@@ -50,7 +50,7 @@ use denote.Exit.{yes}
 use Rattle.policy.specs.declared.header.Header.{Header}
 use Rattle.policy.specs.declared.entry.Entry.{Entry}
 use Rattle.policy.specs.declared.entry.Caught.{Caught}
-use Rattle.policy.specs.Policy.{catcher}
+use Rattle.lookup.specs.Lookup.{caughtAnswer, tableLookupOf}
 use Rattle.policy.proofs.entry.Entry as TEntry
 use Rattle.policy.proofs.entry.Entry.Laws as TEntry′
 use Rattle.policy.proofs.header.Header as THeader
@@ -139,7 +139,7 @@ module _ {M : Type 1} (𝓤 : URA M) (H : Heap 𝓤) (A : Atoms 𝓤) (W : Given
   array-typed : T (hasTy ArrayTy av) × WT av
   array-typed = array-lawful 𝓤 H A W R (StructLaws.lawful TEntry.the-type TEntry′.the-laws 𝓤 H A W) 512 .typed xs (arrayVals xs) is-xs .0
 
-  exits : (r : Caught) (v : Val) → r ≡ catcher p h → ent 𝓤 (sem 𝓤 H A (TCaught.the-row .own r (v ∷ []))) (Post v)
+  exits : (r : Caught) (v : Val) → caughtAnswer r ≡ tableLookupOf p h → ent 𝓤 (sem 𝓤 H A (TCaught.the-row .own r (v ∷ []))) (Post v)
   exits r v e =
       qed W (‵ (TCaught.the-row .own r (v ∷ [])) ∷ []) ∵
       suffices ! _ (ends-at 𝓤 H A this.ended stayed (this.clauses 𝓤 H A mem run) W ((tt, tt, tt, x, vals), tt) v r (tt, (tt, (tt, tt))) (tt, (tt, (tt, tt)))) $ says ! e $
@@ -161,8 +161,8 @@ module _ {M : Type 1} (𝓤 : URA M) (H : Heap 𝓤) (A : Atoms 𝓤) (W : Given
     goes-find : ent 𝓤 (onEntry 𝓤 H A find.signature (κ, tt) (fullShare, tt) (t, (h, tt)) found) (Find 𝓤 H A mem run .pre to-find)
     goes-find = qed W ((‵ (flft κ fullShare) ⊛ ‵ ftrue) ∷ ‵ (owns (ShrSlice (named 0) κ R ∷ THeader.the-row ∷ []) (t, (h, tt)) found) ∷ []) ∵ join ! $ frame ! $ done !
 
-    find-said : (c : Caught) → ent 𝓤 (ensured 𝓤 H A find.ended (find.clauses 𝓤 H A mem run) (κ, tt) (t, (h, tt)) tt c) (fact 𝓤 (c ≡ catcher p h))
-    find-said c = exE 𝓤 _ (λ ws. snd∗ 𝓤 (sem 𝓤 H A (lasts find.ended (κ, tt) (t, (h, tt)) ws)) (fact 𝓤 (c ≡ catcher p h)))
+    find-said : (c : Caught) → ent 𝓤 (ensured 𝓤 H A find.ended (find.clauses 𝓤 H A mem run) (κ, tt) (t, (h, tt)) tt c) (fact 𝓤 (caughtAnswer c ≡ tableLookupOf p h))
+    find-said c = exE 𝓤 _ (λ ws. snd∗ 𝓤 (sem 𝓤 H A (lasts find.ended (κ, tt) (t, (h, tt)) ws)) (fact 𝓤 (caughtAnswer c ≡ tableLookupOf p h)))
 
   -- the locals: _0 the answer, _1 the array, _2 the number, _3 the header, _4 the array's copy, _5 and _6 its address, _7 the number, _8 the address
   -- as a reference, _9 the slice
@@ -194,7 +194,7 @@ module _ {M : Type 1} (𝓤 : URA M) (H : Heap 𝓤) (A : Atoms 𝓤) (W : Given
         -- _0 = lookup_table(_9, _3)
         calls-at ! fm (Find 𝓤 H A mem run) known (to-find l₄ (α ∷ []) γ) (and-then ! (load ! (from ! (stop !)) (look ! 3 refl)) (and-then ! (load ! (from ! (stop !)) (look ! 14 refl)) (no-more !))) (λ v.
         use1 W (later (some (λ (c : Caught). ((‵ (flft (α ∷ []) fullShare) ⊛ ‵ ftrue) ⊛ ‵ (TCaught.the-row .own c (v ∷ []))) ⊛ raw (ensured 𝓤 H A find.ended (find.clauses 𝓤 H A mem run) (α ∷ [], tt) (t l₄ (α ∷ []) γ, (h, tt)) tt c)))) (id⊢ 𝓤 _) $ await ! tt $ pick ! (λ c.
-        split ! $ move ! (1 ∷ []) $ use1 W (raw (fact 𝓤 (c ≡ catcher p h))) (find-said l₄ (α ∷ []) γ c) $ heard ! (c ≡ catcher p h) (λ e. split ! $ split ! $ move ! (2 ∷ []) $
+        split ! $ move ! (1 ∷ []) $ use1 W (raw (fact 𝓤 (caughtAnswer c ≡ tableLookupOf p h))) (find-said l₄ (α ∷ []) γ c) $ heard ! (caughtAnswer c ≡ tableLookupOf p h) (λ e. split ! $ split ! $ move ! (2 ∷ []) $
         peeks ! TCaught.the-row (Is TCaught.the-row) (shows 𝓤 H A TCaught.the-row) c (v ∷ []) (λ is.
         -- [what the answer owns; the token; true; what is lent; the other entries; _9; …; _5; _4's end; _3; …; _0]
         land ! (from ! (stop !)) (init ! 22 refl (EnumLaws.lawful TCaught.the-type TCaught′.the-laws 𝓤 H A W tt .typed c _ is .0)) $

@@ -2,7 +2,9 @@
 -- Assumes nothing.
 use Prim.Native.Nat.{_-_}
 use native.Mathlib.Omega.{arith}
+use mathlib.Core.Path.{ap}
 use borrow.Author.Needs.{needs}
+use Rattle.bench.specs.Calls.{Result}
 use lib.ListN.{length}
 use Rattle.report.proofs.Buffer.{keeps, within}
 use Rattle.report.proofs.Progress.{Progress, begin, end-within, filed-more, all-filed, all-printed}
@@ -55,7 +57,7 @@ loop-again c =
     let a = c .before .before .before .before .before .before .before .before .before .before .before .before .before .before .args in
     let l = c .before .before .before .before .before .before .before .before .before .before .loop in
     let f = c .before .before .before .before .before .file .ensures .0 in
-    filed-more (a .input .now) (l .from) _ _ (l .inv) (c .before .before .before .before .before .before .before .before .before .loop-test .taken) (c .before .before .before .before .before .before .before .file-end .ensures) (f .0) (f .1) (c .before .before .before .put-filing .ensures)
+    filed-more (a .input .now) (l .from) _ _ (l .inv) (c .before .before .before .before .before .before .before .before .before .loop-test .taken) (c .before .before .before .before .before .before .before .file-end .ensures) (ap (λ (x : Result). x .0) f) (ap (λ (x : Result). x .1) f) (c .before .before .before .put-filing .ensures)
 
 same-length : tie.Need-same-length Inv-loop μ-loop
 same-length c = keeps (c .before .loop .inv .printed)
