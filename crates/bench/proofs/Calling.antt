@@ -22,13 +22,15 @@ use Rattle.wire.specs.declared.check.Checked.the-variants.{Good, Refused}
 use Rattle.wire.specs.Format.{filedLimit, countIn, fileSize, recordsIn}
 use Rattle.wire.specs.Checks.{checked}
 use Rattle.wire.proofs.Checks.{within-limits, none-outside, past-outside}
-use Rattle.region.specs.ListChecks.{listChecks, listChecksOf}
+use Rattle.region.specs.ListChecks.{listChecks}
+use Rattle.region.specs.steps.Covering.{listChecksOf}
 use Rattle.region.proofs.ListChecks.{good-passes, passes-tell}
 use Rattle.reconcile.specs.declared.ending.Merged.{Merged}
 use Rattle.reconcile.specs.declared.ending.Merged.the-variants as ending
 use Rattle.reconcile.specs.Rules.{Working, Merging}
-use Rattle.reconcile.specs.Stage.{added, addedAll, ended}
+use Rattle.reconcile.specs.steps.Stage.{added, addedAll, ended}
 use Rattle.reconcile.specs.Ending as end
+use Rattle.reconcile.specs.steps.Ending as said
 use Rattle.reconcile.proofs.Staging.{stages-next, stages-end}
 use Rattle.bench.specs.declared.slots.Slot.{Slot}
 use Rattle.bench.specs.declared.calls.Bench.{Bench}
@@ -231,9 +233,9 @@ module _ (b : Bench) (buffer after : List ℕ) (i : ℕ) (w : Option Working) (n
           (demand-3 buffer (inForce (bookAfter cs)) (all-covering cs)
           (reads-back (inForce (bookAfter cs)) (in-force AllFit (bookAfter cs) (subst (EachSlot AllFit) (whole ∙ k) (e .1)))))
 
-  module _ (x : Merged) (f : end.ending x after ≡ end.endingOf (ended headers w) buffer) where
+  module _ (x : Merged) (f : said.ending x after ≡ end.endingOf (ended headers w) buffer) where
     pub merge-done : (c d : ℕ) → x ≡ ending.Done c d → MergedRight b buffer (merge.Merged c d) after b
-    merge-done c d q = right (merge.Merged c d) (ap (λ (y : Merged). end.ending y after) (sym q) ∙ f ∙ merging-is)
+    merge-done c d q = right (merge.Merged c d) (ap (λ (y : Merged). said.ending y after) (sym q) ∙ f ∙ merging-is)
 
     pub merge-refused : (y : Refusal) → x ≡ ending.Refused y → MergedRight b buffer (merge.Refused y) after b
-    merge-refused y q = right (merge.Refused y) (ap (λ (z : Merged). end.ending z after) (sym q) ∙ f ∙ merging-is)
+    merge-refused y q = right (merge.Refused y) (ap (λ (z : Merged). said.ending z after) (sym q) ∙ f ∙ merging-is)

@@ -11,8 +11,9 @@ use lib.Dec.{ltb, leb}
 use lib.ListN.{length}
 use borrow.Author.Tests.{ltb-true, lt-ltb}
 use Rattle.policy.specs.declared.entry.Entry.{Entry}
-use Rattle.policy.specs.Row.{Row, fits}
-use Rattle.policy.specs.Box.{Range, proper, lows, highsFit, meet}
+use Rattle.policy.specs.Row.{Row}
+use Rattle.policy.specs.Box.{Range, proper, highsFit, meet}
+use Rattle.policy.specs.steps.Boxes.{lows, fits}
 use Rattle.policy.specs.Header.{arity, sizes, headers}
 use Rattle.policy.specs.Entry.{selector}
 use Rattle.policy.proofs.Bool.{and-intro, and-left, and-right}

@@ -15,7 +15,7 @@ use Rattle.policy.specs.declared.entry.Entry.{Entry}
 use Rattle.wire.specs.Format.{Bytes, headSize, recordSize, filedLimit, entriesFrom, recordsIn}
 use Rattle.wire.proofs.Records.{entries-fit}
 use Rattle.reconcile.specs.Rules.{Working}
-use Rattle.reconcile.specs.Stage.{filedIn, added}
+use Rattle.reconcile.specs.steps.Stage.{filedIn, added}
 use Rattle.bench.specs.declared.slots.Slot.{Slot}
 use Rattle.bench.specs.Held.{slotSize, slotWith, bytesIn, slotList}
 use Rattle.wire.specs.steps.Fits.{AllFit}

@@ -11,7 +11,7 @@ ghost use Prim.Native.Nat.{_≤_, min, max};
 ghost use lib.ListN.{length};
 ghost use Rattle.policy.specs.Header.{headers};
 ghost use Rattle.wire.specs.Format.{headSize};
-ghost use Rattle.reconcile.specs.Stage.{stageIn, filedIn, added};
+ghost use Rattle.reconcile.specs.steps.Stage.{stageIn, filedIn, added};
 ghost use Rattle.bench.specs.Held.{slotSize, vacantSlot, slotWith, slotList};
 ghost use Rattle.wire.specs.steps.Fits.{AllFit};
 

@@ -17,7 +17,8 @@ use Rattle.wire.specs.declared.check.Checked.{Checked}
 use Rattle.wire.specs.declared.check.Checked.the-variants.{Good, Refused}
 use Rattle.wire.specs.Format.{listLimit, countIn, listIn}
 use Rattle.wire.specs.Checks.{checked}
-use Rattle.region.specs.ListChecks.{listChecks, listChecksOf}
+use Rattle.region.specs.ListChecks.{listChecks}
+use Rattle.region.specs.steps.Covering.{listChecksOf}
 use Rattle.region.proofs.ListChecks.{passes-tell, good-passes}
 use Rattle.compare.specs.Comparison.{ComparisonAnswer, compared, about, excessOf, verdict, comparisonOf}
 use Rattle.compare.specs.declared.files.Compared.the-variants.{Yes, No, First, Second}

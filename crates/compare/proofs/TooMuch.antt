@@ -14,18 +14,19 @@ use Rattle.policy.specs.declared.header.Found.the-variants.{Nothing}
 use Rattle.policy.specs.declared.entry.Entry.{Entry}
 use Rattle.policy.specs.Box.{meet}
 use Rattle.policy.specs.Header.{arity, fields, Box, lies, everything, Headers, headers}
-use Rattle.policy.specs.Found.{lesser}
+use Rattle.policy.specs.steps.Findings.{lesser}
 use Rattle.policy.specs.Least.{leastIn}
 use Rattle.policy.specs.Entry.{selector}
 use Rattle.policy.specs.Policy.{Allowed, actions, uncaught, allowed, isCaught, missed, exceeds, Covering}
-use Rattle.policy.specs.Rows.{rowSize, boxOf, rowAt, rowsFrom, rowsIn}
+use Rattle.policy.specs.Sides.{boxOf}
+use Rattle.policy.specs.steps.Rows.{rowSize, rowAt, rowsFrom, rowsIn}
 use Rattle.policy.proofs.Bool.{clash}
 use Rattle.policy.proofs.Box.{meet-is}
 use Rattle.policy.proofs.Slices.{length-rows, rows-at, rows-split}
 use Rattle.policy.proofs.Least.{agree, lesser-assoc, lesser-comm, lesser-last}
 use Rattle.region.specs.declared.treated.Sets.{Sets}
 use Rattle.region.specs.declared.treated.Sets.the-variants.{Lacking}
-use Rattle.region.specs.Treated.{judged}
+use Rattle.region.specs.steps.Treated.{judged}
 use Rattle.region.proofs.Union.{in-everything, least-everywhere}
 use Rattle.region.proofs.Uses.{exceeds-step, exceeds-end}
 use Rattle.region.proofs.Judging.{firsts-in}

@@ -8,7 +8,7 @@ use region::treated::least_treated_behind;
 ghost use mathlib.Core.Path.{_≡_};
 ghost use Rattle.policy.specs.Header.{headers};
 ghost use Rattle.policy.specs.Policy.{Covering};
-ghost use Rattle.policy.specs.Rows.{rowsIn};
+ghost use Rattle.policy.specs.steps.Rows.{rowsIn};
 ghost use Rattle.compare.specs.Comparison.{excessOf};
 
 // The least header that the first list allows an action that the second does not. What an entry of the first catches is missed by those

@@ -12,7 +12,7 @@ use wire::format::RECORD_SIZE;
 ghost use mathlib.Core.Path.{_≡_};
 ghost use Prim.Native.Nat.{_*_, _/_, _≤_, min};
 ghost use lib.ListN.{length};
-ghost use Rattle.policy.specs.Rows.{rowSize};
+ghost use Rattle.policy.specs.steps.Rows.{rowSize};
 ghost use Rattle.wire.specs.Format.{recordSize, filedLimit, listLimit};
 ghost use Rattle.compare.specs.Comparison.{compared, comparisonOf};
 

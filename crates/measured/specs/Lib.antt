@@ -1,1 +1,1 @@
-pub mod Caught
+pub mod steps

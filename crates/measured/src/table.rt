@@ -6,7 +6,7 @@ use policy::header::Header;
 ghost use mathlib.Core.Path.{_≡_};
 ghost use Rattle.policy.specs.Header.{header};
 ghost use Rattle.lookup.specs.Lookup.{caughtAnswer, tableLookupOf};
-ghost use Rattle.measured.specs.Caught.{caughtNumber};
+ghost use Rattle.measured.specs.steps.Numbers.{caughtNumber};
 
 // The header of five numbers.
 fn header_of(local: u32, remote: u32, local_port: u16, remote_port: u16, protocol: u8) -> Header

@@ -9,8 +9,9 @@ use mathlib.Core.List.{List, [], _∷_, map}
 use lib.Dec.{ltb, leb, eqb}
 use borrow.Author.Tests.{ltb-true, ltb-false, leb-true, leb-false, lt-ltb, le-ltb, le-leb, eqb-true}
 use Rattle.policy.specs.Row.{Row, precedes}
-use Rattle.policy.specs.Box.{Range, range, within, inside, proper, same, lows, common, meet}
-use Rattle.policy.specs.Cut.{empty, below, above, cut}
+use Rattle.policy.specs.Box.{Range, range, within, inside, proper, common, meet}
+use Rattle.policy.specs.steps.Boxes.{sameBox, lows}
+use Rattle.policy.specs.steps.Cut.{empty, below, above, cut}
 use Rattle.policy.proofs.Bool.{case, clash, is-false, and-intro, and-left, and-right, same-truth}
 use Rattle.policy.proofs.Order.{pre-cases}
 use Rattle.policy.proofs.Conjunctions.{ends-are, paired}
@@ -192,10 +193,10 @@ cut-is (suc k) b s x =
         ∙ last w v u t
 
 -- boxes with the same ranges are one
-pub same-box : (k : ℕ) (a b : Row Range k) → same k a b ≡ true → a ≡ b
+pub same-box : (k : ℕ) (a b : Row Range k) → sameBox k a b ≡ true → a ≡ b
 same-box zero a b e = refl
 same-box (suc k) a b e =
-    let t = and-left (eqb (a .0 .low) (b .0 .low) && eqb (a .0 .high) (b .0 .high)) (same k (a .1) (b .1)) e in
+    let t = and-left (eqb (a .0 .low) (b .0 .low) && eqb (a .0 .high) (b .0 .high)) (sameBox k (a .1) (b .1)) e in
     paired
     (ends-are (eqb-true (a .0 .low) (b .0 .low) (and-left (eqb (a .0 .low) (b .0 .low)) (eqb (a .0 .high) (b .0 .high)) t)) (eqb-true (a .0 .high) (b .0 .high) (and-right (eqb (a .0 .low) (b .0 .low)) (eqb (a .0 .high) (b .0 .high)) t)))
-    (same-box k (a .1) (b .1) (and-right (eqb (a .0 .low) (b .0 .low) && eqb (a .0 .high) (b .0 .high)) (same k (a .1) (b .1)) e))
+    (same-box k (a .1) (b .1) (and-right (eqb (a .0 .low) (b .0 .low) && eqb (a .0 .high) (b .0 .high)) (sameBox k (a .1) (b .1)) e))

@@ -6,11 +6,12 @@ use mathlib.Core.List.{List, [], _∷_, map}
 use Rattle.policy.specs.declared.header.Header.{Header}
 use Rattle.policy.specs.declared.header.Found.{Found}
 use Rattle.policy.specs.declared.header.Found.the-variants.{At, Nothing}
-use Rattle.policy.specs.Box.{inside, proper, lows, meet}
-use Rattle.policy.specs.Cut.{cut}
+use Rattle.policy.specs.Box.{inside, proper, meet}
+use Rattle.policy.specs.steps.Boxes.{lows}
+use Rattle.policy.specs.steps.Cut.{cut}
 use Rattle.policy.specs.Header.{arity, fields, header, Box, lies, Headers, inAny, among}
-use Rattle.policy.specs.Found.{lesser, minOver, minFrom}
-use Rattle.policy.specs.Least.{least, leastIn, always}
+use Rattle.policy.specs.steps.Findings.{lesser, minOver, minFrom}
+use Rattle.policy.specs.Least.{least, leastIn}
 use Rattle.policy.proofs.Bool.{clash, is-false, and-intro, and-left}
 use Rattle.policy.proofs.Box.{any, cut-is, meet-is, corner-in, in-proper, none-before}
 use Rattle.policy.proofs.Least.{agree, union, lesser-assoc, least-at, least-none, at-tells, over, over-from}
@@ -97,6 +98,10 @@ pub leastIn-over : (hs : Headers) (P : Header → Bool) (ps : List Box)
     → least hs (λ h. any (inside arity) ps (fields h) && P h) ≡ minOver (λ p. leastIn hs p P) ps
 unfolding leastIn
 leastIn-over hs P ps = ap (least hs) (fun-ext λ h. sym (pieces P ps h)) ∙ over hs (λ (p : Box) (h : Header). lies p h && P h) ps
+
+-- every header
+abbrev pub always : Header → Bool
+always h = true
 
 -- a search that asks nothing more, or that is not asked
 pub leastIn-when : (hs : Headers) (b : Box) (w : Bool) → leastIn hs b (λ h. w) ≡ cond w (leastIn hs b always) Nothing

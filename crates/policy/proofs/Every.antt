@@ -7,9 +7,10 @@ use mathlib.Core.Bool.{Bool, true, false, _&&_}
 use lib.Dec.{leb, ltb, eqb}
 use borrow.Author.Tests.{leb-true, leb-false, eqb-true, eq-eqb, ne-eqb}
 use Rattle.policy.specs.Row.{precedes}
-use Rattle.policy.specs.Box.{Range, within, common, inside, proper, same, meet}
+use Rattle.policy.specs.Box.{Range, within, common, inside, proper, meet}
+use Rattle.policy.specs.steps.Boxes.{sameBox}
 use Rattle.policy.proofs.Conjunctions.{differs, agrees, paired}
-use Rattle.policy.specs.Rows.{rowOf}
+use Rattle.policy.specs.Sides.{rowOf}
 
 -- every number below k passes
 abbrev pub every : ℕ → (ℕ → Bool) → Bool
@@ -62,7 +63,7 @@ pub proper-every : (k : ℕ) (g : ℕ → Range) → every k (λ j. leb (g j .lo
 proper-every zero g = refl
 proper-every (suc k) g = ap (leb (g 0 .low) (g 0 .high) &&_) (proper-every k (λ j. g (suc j)))
 
-pub same-every : (k : ℕ) (g h : ℕ → Range) → every k (λ j. eqb (g j .low) (h j .low) && eqb (g j .high) (h j .high)) ≡ same k (rowOf k g) (rowOf k h)
+pub same-every : (k : ℕ) (g h : ℕ → Range) → every k (λ j. eqb (g j .low) (h j .low) && eqb (g j .high) (h j .high)) ≡ sameBox k (rowOf k g) (rowOf k h)
 same-every zero g h = refl
 same-every (suc k) g h = ap ((eqb (g 0 .low) (h 0 .low) && eqb (g 0 .high) (h 0 .high)) &&_) (same-every k (λ j. g (suc j)) (λ j. h (suc j)))
 

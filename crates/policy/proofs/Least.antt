@@ -11,11 +11,14 @@ use borrow.Author.Tests.{ltb-true, lt-ltb}
 use Rattle.policy.specs.declared.header.Header.{Header}
 use Rattle.policy.specs.declared.header.Found.{Found}
 use Rattle.policy.specs.declared.header.Found.the-variants.{At, Nothing}
-use Rattle.policy.specs.Row.{Row, precedes, fits}
+use Rattle.policy.specs.Row.{Row, precedes}
+use Rattle.policy.specs.steps.Boxes.{fits}
 use Rattle.policy.specs.Box.{Range, inside, highsFit}
 use Rattle.policy.specs.Header.{arity, fields, header, before, Box, lies, sizes, allFit, Headers, inAny, among}
-use Rattle.policy.specs.Found.{here, lesser, minOver, minFrom}
-use Rattle.policy.specs.Least.{First, first, first-is, scan, least}
+use Rattle.policy.specs.Found.{here}
+use Rattle.policy.specs.steps.Findings.{lesser, minOver, minFrom}
+use Rattle.policy.specs.Least.{first, scan, least}
+use Rattle.policy.proofs.First.{First, first-is}
 use Rattle.policy.proofs.Bool.{clash, is-false, and-intro, and-left, and-right, or-elim, or-left, or-right}
 use Rattle.policy.proofs.Box.{any, le-high, in-first, in-rest}
 use Rattle.policy.proofs.Order.{Order, earlier, equal, later, order, pre-cases, pre-trans, pre-irrefl}

@@ -1,5 +1,6 @@
 pub mod Bool
 pub mod Order
+pub mod First
 pub mod Least
 pub mod Box
 pub mod Branch

@@ -11,9 +11,11 @@ use lib.ListN.{length, getD, set, length-set}
 use lib.Seq.{getD-set-same, getD-set-other}
 use borrow.Author.Tests.{lt-leb, le-leb, ltb-true, ltb-false, eq-eqb, ne-eqb}
 use Rattle.policy.specs.Row.{precedes}
-use Rattle.policy.specs.Box.{Range, within, common, inside, proper, same, meet}
+use Rattle.policy.specs.Box.{Range, within, common, inside, proper, meet}
+use Rattle.policy.specs.steps.Boxes.{sameBox}
 use Rattle.policy.specs.Header.{arity}
-use Rattle.policy.specs.Rows.{rowOf, field, boxOf, numbersIn}
+use Rattle.policy.specs.Sides.{rowOf, field, boxOf}
+use Rattle.policy.specs.steps.Rows.{numbersIn}
 use Rattle.policy.proofs.Conjunctions.{ends-are}
 use Rattle.policy.proofs.Every.{every, Passed, every-passed, one-fails, row-ext, inside-every, proper-every, same-every, meet-fields, first-decides, none-decides}
 
@@ -55,7 +57,7 @@ proper-is b = proper-every arity (field b 0)
 abbrev pub sameAt : List ℕ → List ℕ → ℕ → Bool
 sameAt a b j = eqb (field a 0 j .low) (field b 0 j .low) && eqb (field a 0 j .high) (field b 0 j .high)
 
-pub same-is : (a b : List ℕ) → every arity (sameAt a b) ≡ same arity (boxOf a 0) (boxOf b 0)
+pub same-is : (a b : List ℕ) → every arity (sameAt a b) ≡ sameBox arity (boxOf a 0) (boxOf b 0)
 unfolding boxOf
 same-is a b = same-every arity (field a 0) (field b 0)
 
@@ -130,18 +132,18 @@ module _ (b : List ℕ) (f : ℕ) where
 
 module _ (a b : List ℕ) (f : ℕ) where
   module _ (x y : ℕ) (p : x ≡ field a 0 f .low) (q : y ≡ field b 0 f .low) where
-    pub low-differs : f < arity → (x ≡ y → ⊥) → false ≡ same arity (boxOf a 0) (boxOf b 0)
+    pub low-differs : f < arity → (x ≡ y → ⊥) → false ≡ sameBox arity (boxOf a 0) (boxOf b 0)
     low-differs m n = one-fails arity f (sameAt a b) m (ap (_&& eqb (field a 0 f .high) (field b 0 f .high)) (ap₂ eqb (sym p) (sym q) ∙ ne-eqb x y n)) ∙ same-is a b
 
     module _ (u v : ℕ) (r : u ≡ field a 0 f .high) (s : v ≡ field b 0 f .high) where
-      pub high-differs : f < arity → x ≡ y → (u ≡ v → ⊥) → false ≡ same arity (boxOf a 0) (boxOf b 0)
+      pub high-differs : f < arity → x ≡ y → (u ≡ v → ⊥) → false ≡ sameBox arity (boxOf a 0) (boxOf b 0)
       high-differs m e n =
           one-fails arity f (sameAt a b) m (ap₂ _&&_ (ap₂ eqb (sym p) (sym q) ∙ eq-eqb x y e) (ap₂ eqb (sym r) (sym s) ∙ ne-eqb u v n)) ∙ same-is a b
 
       pub same-more : x ≡ y → u ≡ v → Passed (sameAt a b) f → Passed (sameAt a b) (f + 1)
       same-more e g c = passed-more (sameAt a b) f c (ap₂ _&&_ (ap₂ eqb (sym p) (sym q) ∙ eq-eqb x y e) (ap₂ eqb (sym r) (sym s) ∙ eq-eqb u v g))
 
-  pub same-all : arity ≤ f → Passed (sameAt a b) f → true ≡ same arity (boxOf a 0) (boxOf b 0)
+  pub same-all : arity ≤ f → Passed (sameAt a b) f → true ≡ sameBox arity (boxOf a 0) (boxOf b 0)
   same-all l c = all-passed (sameAt a b) arity f l c ∙ same-is a b
 
 -- ---- boxes that a loop fills, field by field

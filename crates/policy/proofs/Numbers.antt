@@ -14,7 +14,8 @@ use Rattle.policy.specs.Box.{inside}
 use Rattle.policy.specs.Header.{arity, before}
 use Rattle.policy.specs.Entry.{entry, selector, matches}
 use Rattle.policy.specs.Refusals.{numbers}
-use Rattle.policy.specs.Rows.{sides, rowSize, field, boxOf, numbersIn, rowAt, rowsFrom, rowsIn, numbersOf, allNumbers}
+use Rattle.policy.specs.Sides.{field, boxOf}
+use Rattle.policy.specs.steps.Rows.{sides, rowSize, numbersIn, rowAt, rowsFrom, rowsIn, numbersOf, allNumbers}
 use Rattle.policy.proofs.Conjunctions.{ends-are}
 use Rattle.policy.proofs.Every.{row-ext}
 

@@ -10,7 +10,8 @@ use lib.Seq.{getD-take}
 use Rattle.policy.specs.declared.entry.Entry.{Entry}
 use Rattle.policy.specs.Header.{arity}
 use Rattle.policy.specs.Entry.{entry}
-use Rattle.policy.specs.Rows.{sides, rowSize, field, boxOf, rowAt, rowsFrom}
+use Rattle.policy.specs.Sides.{field, boxOf}
+use Rattle.policy.specs.steps.Rows.{sides, rowSize, rowAt, rowsFrom}
 use Rattle.policy.proofs.Conjunctions.{ends-are}
 use Rattle.policy.proofs.Every.{row-ext}
 

@@ -1,7 +1,7 @@
 -- Inclusive ranges, and rows of them: 01's selectors and boxes.
 use Prim.Native.Nat.{ℕ, zero, suc, min, max}
 use mathlib.Core.Bool.{Bool, true, _&&_}
-use lib.Dec.{ltb, leb, eqb}
+use lib.Dec.{ltb, leb}
 use Rattle.policy.specs.Row.{Row}
 
 pub record Range : Type 0 where
@@ -24,16 +24,6 @@ inside (suc k) b x = within (b .0) (x .0) && inside k (b .1) (x .1)
 abbrev pub proper : (k : ℕ) → Row Range k → Bool
 proper zero b = true
 proper (suc k) b = leb (b .0 .low) (b .0 .high) && proper k (b .1)
-
--- the two have the same ranges
-abbrev pub same : (k : ℕ) → Row Range k → Row Range k → Bool
-same zero a b = true
-same (suc k) a b = (eqb (a .0 .low) (b .0 .low) && eqb (a .0 .high) (b .0 .high)) && same k (a .1) (b .1)
-
--- the low corner
-abbrev pub lows : (k : ℕ) → Row Range k → Row ℕ k
-lows zero b = tt
-lows (suc k) b = (b .0 .low, lows k (b .1))
 
 -- every high is below its size
 abbrev pub highsFit : (k : ℕ) → Row ℕ k → Row Range k → Bool

@@ -1,11 +1,11 @@
 pub mod Row
 pub mod Box
-pub mod Cut
 pub mod Header
 pub mod Found
 pub mod Least
 pub mod Actions
 pub mod Entry
-pub mod Rows
+pub mod Sides
 pub mod Policy
 pub mod Refusals
+pub mod steps

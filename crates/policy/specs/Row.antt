@@ -1,6 +1,6 @@
 -- Rows: k values of one type. A header's numbers and a selector's ranges are rows, so that no law names a field.
 use Prim.Native.Nat.{ℕ, zero, suc}
-use mathlib.Core.Bool.{Bool, true, false, _&&_, _||_}
+use mathlib.Core.Bool.{Bool, false, _&&_, _||_}
 use lib.Dec.{ltb, eqb}
 
 -- k values of one type, as nested pairs
@@ -12,8 +12,3 @@ Row A (suc k) = A × Row A k
 abbrev pub precedes : (k : ℕ) → Row ℕ k → Row ℕ k → Bool
 precedes zero x y = false
 precedes (suc k) x y = ltb (x .0) (y .0) || (eqb (x .0) (y .0) && precedes k (x .1) (y .1))
-
--- each number is below its size
-abbrev pub fits : (k : ℕ) → Row ℕ k → Row ℕ k → Bool
-fits zero ns x = true
-fits (suc k) ns x = ltb (x .0) (ns .0) && fits k (ns .1) (x .1)

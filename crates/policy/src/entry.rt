@@ -8,7 +8,8 @@ use crate::sides::is_proper;
 use crate::sides::row_sides;
 ghost use mathlib.Core.Path.{_≡_};
 ghost use Rattle.policy.specs.Entry.{selector, matches, crossed};
-ghost use Rattle.policy.specs.Rows.{boxOf, numbersOf};
+ghost use Rattle.policy.specs.Sides.{boxOf};
+ghost use Rattle.policy.specs.steps.Rows.{numbersOf};
 
 // Laid out as in C, which may lend a table of them.
 #[repr(C)]

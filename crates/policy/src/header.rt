@@ -5,7 +5,7 @@ use crate::sides::precede;
 ghost use mathlib.Core.Path.{_≡_};
 ghost use Rattle.policy.specs.Header.{before, everything};
 ghost use Rattle.policy.specs.Refusals.{numbers};
-ghost use Rattle.policy.specs.Rows.{boxOf};
+ghost use Rattle.policy.specs.Sides.{boxOf};
 
 // Five numbers; every combination is a header.
 pub struct Header {

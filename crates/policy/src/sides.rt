@@ -5,9 +5,11 @@ ghost use Prim.Native.Nat.{_+_, _≤_, _<_, min, max};
 ghost use lib.ListN.{length};
 ghost use lib.Dec.{leb};
 ghost use Rattle.policy.specs.Row.{precedes};
-ghost use Rattle.policy.specs.Box.{inside, proper, same, meet};
+ghost use Rattle.policy.specs.Box.{inside, proper, meet};
+ghost use Rattle.policy.specs.steps.Boxes.{sameBox};
 ghost use Rattle.policy.specs.Header.{arity};
-ghost use Rattle.policy.specs.Rows.{sides, rowSize, field, boxOf, rowAt, numbersIn};
+ghost use Rattle.policy.specs.Sides.{field, boxOf};
+ghost use Rattle.policy.specs.steps.Rows.{sides, rowSize, rowAt, numbersIn};
 
 // How many fields a header has; the sides of a box, a low and a high for each; and the numbers of a row, which has an action set too.
 pub const FIELDS: usize = 5;
@@ -120,7 +122,7 @@ pub fn is_inside(b: &[u32; SIDES], x: &[u32; FIELDS]) -> bool
 
 // Whether a and b are the same box.
 pub fn is_same(a: &[u32; SIDES], b: &[u32; SIDES]) -> bool
-    ensures { λ t. ⌜ t ≡ same arity (boxOf (now (a .entry)) 0) (boxOf (now (b .entry)) 0) ⌝ }
+    ensures { λ t. ⌜ t ≡ sameBox arity (boxOf (now (a .entry)) 0) (boxOf (now (b .entry)) 0) ⌝ }
 {
     let mut f: usize = 0;
     while f < FIELDS {

@@ -9,7 +9,8 @@ use mathlib.Core.List.{List, [], _∷_, _++_, append-assoc}
 use lib.ListN.{length, take, drop, getD, set, length-append, length-drop, take-append-drop}
 use lib.Seq.{length-take-le, take-at, drop-at, take-take, getD-take, take-suc-set, take-set-lt, set-at, set-getD, paste, slice}
 use Rattle.policy.specs.declared.entry.Entry.{Entry}
-use Rattle.policy.specs.Rows.{rowSize, boxOf, rowAt, rowsFrom, rowsIn, numbersOf}
+use Rattle.policy.specs.Sides.{boxOf}
+use Rattle.policy.specs.steps.Rows.{rowSize, rowAt, rowsFrom, rowsIn, numbersOf}
 use Rattle.policy.proofs.Numbers.{rows-after}
 use Rattle.policy.proofs.Slices.{length-rows, rows-at, rows-split, rows-take}
 use Rattle.region.proofs.Judging.{firsts-in}

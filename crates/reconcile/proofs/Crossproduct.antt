@@ -19,7 +19,8 @@ use Rattle.policy.specs.Policy.{catcherFrom, catcher, Allowed, actions, uncaugh
 use Rattle.policy.proofs.Bool.{clash, is-false, not-true, and-intro, and-left, and-right}
 use Rattle.policy.proofs.Policy.{missed-cons, Catches, caught-by, uncaught-by, catches-allows}
 use Rattle.wire.specs.Lists.{emptyEntry}
-use Rattle.reconcile.specs.Crossproduct.{In, AllCovering, both, Tuple, IsTuple, entryWith, entryOf, entriesOf, Crossproduct, Precedes, Extends, OrderedCrossproduct, EachCatches}
+use Rattle.reconcile.specs.Crossproduct.{In, AllCovering, both, Tuple, IsTuple, entryWith, entryOf, entriesOf, Crossproduct, Precedes, Extends, OrderedCrossproduct}
+use Rattle.reconcile.specs.steps.Catching.{EachCatches}
 use Rattle.reconcile.specs.Rules.{inBoth, commonWith, commonActions}
 use Rattle.reconcile.proofs.Common.{common-caught, with-uncaught}
 use Rattle.reconcile.proofs.Crossing.{both-is}

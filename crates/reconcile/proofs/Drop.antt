@@ -1,4 +1,4 @@
--- Rule 2: dropping leaves what the list allows; what is left catches; and Lemmas 31 and 32.
+-- Rule 2: dropping leaves what the list allows; what is left catches; and Lemma 31.
 -- Assumes nothing.
 use Prim.Native.Nat.{ℕ, suc, _+_}
 use native.Mathlib.Omega.{arith}
@@ -232,10 +232,10 @@ empty-is hs w r = go (hasEmpty w) refl
     go true e = sym (ap not (somewhere hs (λ h. isEmpty (allowed w h)) (empty-shows hs [] w r e)))
     go false e = sym (ap not (none-by hs (λ h. isEmpty (allowed w h)) λ h a. is-false (isEmpty (allowed w h)) λ x. clash (shows-empty w h x) e))
 
--- Lemma 32: a list is implementable exactly if each of its entries with an empty set is shadowed
+-- a list is implementable exactly if each of its entries with an empty set is shadowed
 module _ (hs : Headers) (p : List Entry) where
-  pub lemma32 : Implementable hs p → (front : List Entry) (e : Entry) (back : List Entry) → p ≡ front ++ e ∷ back → e .actions ≡ 0 → Shadowed hs front e
-  lemma32 i front e back q z h a m = not-false (is-false (missed front h) λ u. i h a (ap (λ (l : List Entry). allowed l h) q ∙ allows u))
+  pub empty-shadowed : Implementable hs p → (front : List Entry) (e : Entry) (back : List Entry) → p ≡ front ++ e ∷ back → e .actions ≡ 0 → Shadowed hs front e
+  empty-shadowed i front e back q z h a m = not-false (is-false (missed front h) λ u. i h a (ap (λ (l : List Entry). allowed l h) q ∙ allows u))
     where
       allows : missed front h ≡ true → allowed (front ++ e ∷ back) h ≡ actions 0
       allows u = allowed-append front (e ∷ back) h ∙ ap₂ orNext (none (allowed front h) u) (ap (λ (b : Bool). cond b (actions (e .actions)) (allowed back h)) m ∙ ap actions z)
@@ -257,7 +257,7 @@ module _ (hs : Headers) (p : List Entry) where
       go ih true m q = (front, e, back, w, u, m, cc)
       go ih false m q = ih m q
 
-  pub lemma32-back : ((front : List Entry) (e : Entry) (back : List Entry) → p ≡ front ++ e ∷ back → e .actions ≡ 0 → Shadowed hs front e) → Implementable hs p
-  lemma32-back f h a q =
+  pub shadowed-implementable : ((front : List Entry) (e : Entry) (back : List Entry) → p ≡ front ++ e ∷ back → e .actions ≡ 0 → Shadowed hs front e) → Implementable hs p
+  shadowed-implementable f h a q =
       let t = allowed-at h [] p refl refl q in
       clash (f (t .0) (t .1) (t .2) (t .3) (t .6) h a (t .5)) (not-true (t .4))

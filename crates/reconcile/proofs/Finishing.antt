@@ -13,16 +13,17 @@ use Rattle.policy.specs.declared.header.Found.{Found}
 use Rattle.policy.specs.declared.header.Found.the-variants.{At, Nothing}
 use Rattle.policy.specs.declared.entry.Entry.{Entry}
 use Rattle.policy.specs.Header.{Box, lies, Headers, headers, everything}
-use Rattle.policy.specs.Found.{lesser}
+use Rattle.policy.specs.steps.Findings.{lesser}
 use Rattle.policy.specs.Least.{least, leastIn}
 use Rattle.policy.specs.Entry.{selector}
 use Rattle.policy.specs.Policy.{allowed, missed}
-use Rattle.policy.specs.Rows.{rowSize, boxOf, rowAt, rowsFrom, rowsIn, numbersOf}
+use Rattle.policy.specs.Sides.{boxOf}
+use Rattle.policy.specs.steps.Rows.{rowSize, rowAt, rowsFrom, rowsIn, numbersOf}
 use Rattle.policy.proofs.Least.{lesser-last}
 use Rattle.policy.proofs.Bool.{not-true, not-false}
 use Rattle.wire.proofs.Lists.{zeroEntry}
 use Rattle.region.specs.declared.treated.Sets.the-variants.{Same, Other}
-use Rattle.region.specs.Treated.{judged}
+use Rattle.region.specs.steps.Treated.{judged}
 use Rattle.region.proofs.Union.{least-gap}
 use Rattle.reconcile.specs.Rules.{isNothing, noHeader, isEmpty, needless, strike, struckFrom, struck}
 use Rattle.reconcile.proofs.Striking.{needless-is}

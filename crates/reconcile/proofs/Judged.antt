@@ -8,7 +8,7 @@ use Rattle.policy.specs.declared.entry.Entry.{Entry}
 use Rattle.policy.specs.Entry.{matches}
 use Rattle.policy.specs.Policy.{Allowed, actions, uncaught, allowed, missed}
 use Rattle.region.specs.declared.treated.Sets.the-variants.{Same, Other}
-use Rattle.region.specs.Treated.{judged}
+use Rattle.region.specs.steps.Treated.{judged}
 use Rattle.reconcile.specs.Rules.{same, isEmpty}
 use Rattle.reconcile.proofs.Striking.{Differs}
 

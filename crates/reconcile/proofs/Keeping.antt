@@ -15,17 +15,17 @@ use Rattle.policy.specs.declared.header.Found.the-variants.{At, Nothing}
 use Rattle.policy.specs.declared.entry.Entry.{Entry}
 use Rattle.policy.specs.Box.{proper}
 use Rattle.policy.specs.Header.{arity, Box, lies, Headers, headers}
-use Rattle.policy.specs.Found.{lesser}
+use Rattle.policy.specs.steps.Findings.{lesser}
 use Rattle.policy.specs.Least.{least, leastIn}
 use Rattle.policy.specs.Entry.{selector}
 use Rattle.policy.specs.Policy.{missed}
-use Rattle.policy.specs.Rows.{rowSize, rowsIn, numbersOf}
+use Rattle.policy.specs.steps.Rows.{rowSize, rowsIn, numbersOf}
 use Rattle.policy.proofs.Least.{agree, lesser-last}
 use Rattle.policy.proofs.Bool.{not-true, not-false}
 use Rattle.wire.specs.Format.{listLimit}
 use Rattle.reconcile.specs.Rules.{isNothing, noHeader, shadowed, Working, list, crowded, limited}
-use Rattle.reconcile.specs.Pass.{offered, offeredAll}
-use Rattle.reconcile.specs.Stage.{workingIn}
+use Rattle.reconcile.specs.steps.Pass.{offered, offeredAll}
+use Rattle.reconcile.specs.steps.Stage.{workingIn}
 use Rattle.reconcile.proofs.Pass.{empty-shadowed, offered-append}
 use Rattle.reconcile.proofs.Beside.{lent-front, Beside, beside-next}
 

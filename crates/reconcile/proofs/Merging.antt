@@ -99,10 +99,10 @@ module _ (hs : Headers) where
       → (h : Header) → among hs h ≡ true → allowed w h ≡ commonActions (p ∷ ps) h
   working-allows p ps w e h a = nextAll-allows p ps w h a e
 
-  -- rule 3: an entry of the working list has an empty set exactly if some header has no common action
-  pub rule3 : (p : List Entry) (ps : List (List Entry)) (w : List Entry) → working hs p ps ≡ list w
+  -- an entry of the working list has an empty set exactly if some header has no common action
+  pub empty-lacking : (p : List Entry) (ps : List (List Entry)) (w : List Entry) → working hs p ps ≡ list w
       → hasEmpty w ≡ not (noHeader hs (lacking (p ∷ ps)))
-  rule3 p ps w e =
+  empty-lacking p ps w e =
       empty-is hs w (working-shown p ps w e)
       ∙ ap not (noHeader-agree hs (λ h. isEmpty (allowed w h)) (lacking (p ∷ ps)) λ h a. ap isEmpty (working-allows p ps w e h a))
 

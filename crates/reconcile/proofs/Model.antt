@@ -12,7 +12,7 @@ use Rattle.policy.specs.Least.{least, leastIn}
 use Rattle.policy.specs.Entry.{selector, matches}
 use Rattle.policy.specs.Policy.{allowed, missed}
 use Rattle.region.specs.declared.treated.Sets.the-variants.{Same, Other}
-use Rattle.region.specs.Treated.{wanted}
+use Rattle.region.specs.steps.Treated.{wanted}
 use Rattle.region.proofs.Model.{seek, seek-is, sought, asked, never, answers-judged, answers-behind, answers-missed}
 use Rattle.reconcile.specs.Rules.{isNothing, noHeader, isEmpty, cross, shadowed, trimmed, Working, list, crowded, limited, next, nextAll, working, conflictOf, needless, strike, struckFrom, Merging, refused, merged, settled, finished, mergeOf}
 use Rattle.reconcile.proofs.Judged.{differs-judged, empty-judged}

@@ -17,7 +17,8 @@ use Rattle.policy.specs.Box.{proper, meet}
 use Rattle.policy.specs.Header.{arity, Box, lies, headers}
 use Rattle.policy.specs.Entry.{selector}
 use Rattle.policy.specs.Policy.{missed}
-use Rattle.policy.specs.Rows.{rowSize, boxOf, rowAt, rowsIn, numbersOf}
+use Rattle.policy.specs.Sides.{boxOf}
+use Rattle.policy.specs.steps.Rows.{rowSize, rowAt, rowsIn, numbersOf}
 use Rattle.policy.proofs.Slices.{length-rows, rows-at}
 use Rattle.wire.specs.Format.{recordSize, filedLimit, listLimit, entryAt, entriesFrom}
 use Rattle.wire.specs.Lists.{emptyEntry}
@@ -25,8 +26,8 @@ use Rattle.wire.proofs.Entries.{entries-at}
 use Rattle.wire.proofs.Lists.{zeroEntry}
 use Rattle.reconcile.specs.Crossproduct.{both}
 use Rattle.reconcile.specs.Rules.{noHeader, cross, Working, list, crowded, next}
-use Rattle.reconcile.specs.Pass.{offeredAll, Apart, RowsOf}
-use Rattle.reconcile.specs.Stage.{workingIn, filedIn}
+use Rattle.reconcile.specs.steps.Pass.{offeredAll, Apart, RowsOf}
+use Rattle.reconcile.specs.steps.Stage.{workingIn, filedIn}
 use Rattle.reconcile.proofs.Pass.{offered-next, offered-append, offered-crowded}
 use Rattle.reconcile.proofs.Keeping.{working-list, Keeps, keeps-empty, keeps-shadowed, keeps-full, keeps-kept}
 

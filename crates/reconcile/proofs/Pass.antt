@@ -16,7 +16,7 @@ use Rattle.policy.specs.Entry.{selector, matches}
 use Rattle.policy.specs.Policy.{missed}
 use Rattle.wire.specs.Format.{listLimit}
 use Rattle.reconcile.specs.Rules.{cross, dropEmpty, shadowed, dropShadowed, trimmed, Working, list, crowded, limited, next}
-use Rattle.reconcile.specs.Pass.{offered, offeredAll}
+use Rattle.reconcile.specs.steps.Pass.{offered, offeredAll}
 use Rattle.reconcile.proofs.Decide.{none-by, nowhere, noHeader-agree}
 use Rattle.reconcile.proofs.Drop.{empty-misses, missed-snoc}
 

@@ -14,14 +14,14 @@ use Rattle.policy.specs.declared.entry.Entry.{Entry}
 use Rattle.policy.specs.Header.{Box, lies, Headers, headers}
 use Rattle.policy.specs.Entry.{selector}
 use Rattle.policy.specs.Policy.{missed}
-use Rattle.policy.specs.Rows.{rowSize, rowsIn, numbersOf}
+use Rattle.policy.specs.steps.Rows.{rowSize, rowsIn, numbersOf}
 use Rattle.wire.specs.Format.{recordSize, listLimit, entryAt, entriesFrom}
 use Rattle.wire.specs.Lists.{emptyEntry}
 use Rattle.wire.proofs.Entries.{length-entries, entries-at}
 use Rattle.reconcile.specs.declared.stage.Stage.{Stage}
 use Rattle.reconcile.specs.Rules.{noHeader, trimmed, Working, list, crowded, limited, next, nextAll, working, conflictOf, settled, finished, mergeOf}
-use Rattle.reconcile.specs.Pass.{offeredAll}
-use Rattle.reconcile.specs.Stage.{workingIn, stageIn, added, addedAll, ended}
+use Rattle.reconcile.specs.steps.Pass.{offeredAll}
+use Rattle.reconcile.specs.steps.Stage.{workingIn, stageIn, added, addedAll, ended}
 use Rattle.reconcile.proofs.Pass.{offered-first}
 use Rattle.reconcile.proofs.Keeping.{working-crowded, working-list, Keeps, keeps-shadowed, keeps-kept}
 use Rattle.reconcile.proofs.Merging.{rule3-least}

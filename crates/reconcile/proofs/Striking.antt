@@ -10,7 +10,8 @@ use Rattle.policy.specs.Entry.{matches}
 use Rattle.policy.specs.Policy.{Allowed, actions, uncaught, allowed, isCaught, missed, Equivalent}
 use Rattle.policy.proofs.Bool.{clash, is-false, not-true, not-false, and-intro, and-left, and-right}
 use Rattle.policy.proofs.Policy.{orNext, allowed-append}
-use Rattle.reconcile.specs.Rules.{same, Collected, collected, needless, struckFrom, struck}
+use Rattle.reconcile.specs.Rules.{same, Collected, needless, struckFrom, struck}
+use Rattle.reconcile.specs.steps.Tests.{collected}
 use Rattle.reconcile.proofs.Decide.{none-by, nowhere, witness, somewhere, noHeader-agree}
 use Rattle.reconcile.proofs.Common.{same-self, same-tells, same-by}
 use Rattle.reconcile.proofs.Drop.{missed-less, Each, each-wider, each-at}

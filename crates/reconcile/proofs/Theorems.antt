@@ -4,20 +4,21 @@
 use Prim.Native.Nat.{ℕ, zero, suc}
 use native.Mathlib.Omega.{arith}
 use mathlib.Core.Path.{_≡_, refl, sym, _∙_, ap, subst}
-use mathlib.Core.Logic.{_⊎_, inl, inr}
-use mathlib.Core.Bool.{true}
+use mathlib.Core.Logic.{_↔_, _⊎_, inl, inr}
+use mathlib.Core.Bool.{true, not}
 use mathlib.Core.List.{List, [], _∷_, _++_}
 use Rattle.policy.specs.declared.entry.Entry.{Entry}
 use Rattle.policy.specs.Header.{Headers}
-use Rattle.policy.specs.Policy.{Allowed, allowed, isCaught, atMost, Covering, Equivalent, Refines}
+use Rattle.policy.specs.Policy.{Allowed, allowed, isCaught, atMost, Covering, Equivalent, Refines, Implementable}
 use Rattle.policy.proofs.Policy.{equivalent-trans}
 use Rattle.reconcile.specs.Crossproduct.{AllCovering, Reconciles, CorrectReconciliation, PairwiseEquivalent, Tuple, entriesOf, OrderedCrossproduct}
-use Rattle.reconcile.specs.Rules.{dropEmpty, Shadowed, WithoutShadowed, dropShadowed, trimmed, Collected, WithoutCollected, merged, mergeOf}
+use Rattle.reconcile.specs.Rules.{noHeader, dropEmpty, Shadowed, WithoutShadowed, dropShadowed, trimmed, list, working, hasEmpty, lacking, Collected, WithoutCollected, merged, mergeOf}
 use Rattle.reconcile.proofs.Common.{common-reconciles, common-widest}
-use Rattle.reconcile.proofs.Drop.{dropEmpty-allows, withoutShadowed-allows, trimmed-allows}
+use Rattle.reconcile.proofs.Drop.{dropEmpty-allows, withoutShadowed-allows, trimmed-allows, empty-shadowed, shadowed-implementable}
 use Rattle.reconcile.proofs.Striking.{needless-is, collected-tells, collected-by, needless-tells, needless-by}
 use Rattle.reconcile.proofs.Crossproduct.{ordered-is, lemma19}
-use Rattle.reconcile.proofs.Merging.{merged-allows}
+use Rattle.reconcile.proofs.Lexicographic.{tuples, lexicographic}
+use Rattle.reconcile.proofs.Merging.{empty-lacking, merged-allows}
 
 -- ---- equivalent lists
 
@@ -99,7 +100,21 @@ pub theorem36 : (hs : Headers) (front : List Entry) (e : Entry) (back : List Ent
     → Shadowed hs front e ⊎ Collected hs front e back
 theorem36 hs front e back q = inr (collected-tells hs front e back (sym (needless-is hs front e back) ∙ needless-by hs front e back q))
 
+-- Lemma 32: a list is implementable exactly if each of its entries with an empty set is shadowed
+pub lemma32 : (hs : Headers) (p : List Entry)
+    → Implementable hs p ↔ ((front : List Entry) (e : Entry) (back : List Entry) → p ≡ front ++ e ∷ back → e .actions ≡ 0 → Shadowed hs front e)
+lemma32 hs p = (empty-shadowed hs p, shadowed-implementable hs p)
+
 -- ---- mergings
+
+-- there is an ordered crossproduct of any lists
+pub crossproduct-exists : (ps : List (List Entry)) → (ts : List Tuple) × OrderedCrossproduct ps ts
+crossproduct-exists ps = (tuples ps, lexicographic ps)
+
+-- rule 3: an entry of the working list has an empty set exactly if some header has no common action
+pub rule3 : (hs : Headers) (p : List Entry) (ps : List (List Entry)) (w : List Entry) → working hs p ps ≡ list w
+    → hasEmpty w ≡ not (noHeader hs (lacking (p ∷ ps)))
+rule3 hs p ps w e = empty-lacking hs p ps w e
 
 -- the merged list is equivalent to every ordered crossproduct of the lists
 pub merged-crossproduct : (hs : Headers) (ps : List (List Entry)) (m : List Entry) (ts : List Tuple) → mergeOf hs ps ≡ merged m → OrderedCrossproduct ps ts

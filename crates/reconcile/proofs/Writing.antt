@@ -17,15 +17,16 @@ use Rattle.policy.specs.Header.{Headers, headers}
 use Rattle.policy.specs.Least.{least}
 use Rattle.policy.specs.Policy.{allowed}
 use Rattle.policy.specs.Refusals.{Answer, refusal, accepted, refuse, refuseAt, firstOf}
-use Rattle.policy.specs.Rows.{rowSize, rowsIn}
+use Rattle.policy.specs.steps.Rows.{rowSize, rowsIn}
 use Rattle.wire.specs.Format.{headSize, recordSize, listLimit, fileSize, fileOf}
 use Rattle.wire.specs.Answers.{ifAccepted}
 use Rattle.wire.specs.Writing.{placed, tooNarrow}
 use Rattle.reconcile.specs.declared.stage.Stage.{Stage}
 use Rattle.reconcile.specs.declared.ending.Merged.the-variants.{Done, Refused}
 use Rattle.reconcile.specs.Rules.{isEmpty, Working, list, crowded, working, conflictOf, struck, Merging, merged, settled, finished, mergeOf}
-use Rattle.reconcile.specs.Stage.{workingIn, stageIn, ended}
-use Rattle.reconcile.specs.Ending.{answerOf, endingOf, ending, isCrowded, leftOf, workingOf, mergeChecks}
+use Rattle.reconcile.specs.steps.Stage.{workingIn, stageIn, ended}
+use Rattle.reconcile.specs.steps.Ending.{ending}
+use Rattle.reconcile.specs.Ending.{answerOf, endingOf, isCrowded, leftOf, workingOf, mergeChecks}
 use Rattle.reconcile.proofs.Beside.{lent-front, Beside}
 use Rattle.reconcile.proofs.Keeping.{working-crowded, working-list}
 
@@ -88,11 +89,11 @@ module _ (x : Stage) (b : List ℕ) where
 
 -- ---- the answer is that of the checks in 01's order
 
-pub answer-rows : (hs : Headers) (ps : List (List Entry)) (b : List ℕ)
+pub checks-in-order : (hs : Headers) (ps : List (List Entry)) (b : List ℕ)
     → answerOf (mergeOf hs ps) b
     ≡ firstOf (mergeChecks hs ps b) (accepted (length (leftOf hs (workingOf hs ps)) ∷ fileSize (length (leftOf hs (workingOf hs ps))) ∷ []))
-answer-rows hs [] b = refl
-answer-rows hs (p ∷ ps) b = go (working hs p ps) (conflictOf hs (p ∷ ps))
+checks-in-order hs [] b = refl
+checks-in-order hs (p ∷ ps) b = go (working hs p ps) (conflictOf hs (p ∷ ps))
   where
     go : (w : Working) (c : Found)
         → answerOf (finished hs w c) b

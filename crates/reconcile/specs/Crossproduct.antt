@@ -5,14 +5,12 @@ use mathlib.Core.Path.{_≡_}
 use mathlib.Core.Logic.{_⊎_}
 use mathlib.Core.List.{List, [], _∷_, map}
 use lib.ListN.{length, getD}
-use Rattle.policy.specs.declared.header.Header.{Header}
 use Rattle.policy.specs.declared.entry.Entry.{Entry}
-use Rattle.policy.specs.declared.entry.Caught.the-variants.{By}
 use Rattle.policy.specs.Box.{meet}
 use Rattle.policy.specs.Header.{arity, Headers}
 use Rattle.policy.specs.Actions.{shared}
 use Rattle.policy.specs.Entry.{selector, entry}
-use Rattle.policy.specs.Policy.{catcher, Covering, Equivalent, Refines}
+use Rattle.policy.specs.Policy.{Covering, Equivalent, Refines}
 use Rattle.wire.specs.Lists.{emptyEntry}
 
 -- x stands in the list
@@ -96,10 +94,3 @@ Extends (t ∷ ts) = ((s : Tuple) → In s ts → Precedes s t → ⊥) × Exten
 pub record OrderedCrossproduct (ps : List (List Entry)) (ts : List Tuple) : Type 0 where
   pub crossproduct : Crossproduct ps ts
   pub ordered : Extends ts
-
--- each entry of the tuple catches the header in its policy (Lemma 25)
-abbrev pub EachCatches : List (List Entry) → Tuple → Header → Type 0
-EachCatches [] [] h = Unit {0}
-EachCatches [] (i ∷ t) h = ⊥
-EachCatches (p ∷ ps) [] h = ⊥
-EachCatches (p ∷ ps) (i ∷ t) h = (catcher p h ≡ By i) × EachCatches ps t h

@@ -11,8 +11,6 @@ use Rattle.policy.specs.Refusals.{Answer, refusal, accepted, refuse, refuseAt, 
 use Rattle.wire.specs.Format.{fileSize, fileOf}
 use Rattle.wire.specs.Answers.{ifAccepted}
 use Rattle.wire.specs.Writing.{placed, tooNarrow}
-use Rattle.reconcile.specs.declared.ending.Merged.{Merged}
-use Rattle.reconcile.specs.declared.ending.Merged.the-variants.{Done, Refused}
 use Rattle.reconcile.specs.Rules.{Working, list, crowded, working, conflictOf, struck, Merging, refused, merged}
 
 -- the answer: 8, 9, 10 or 11, or the file's entry count and length
@@ -28,11 +26,6 @@ fileFor (merged p) = fileOf p
 -- the answer, and the buffer's final contents: a refusal leaves it as it was
 abbrev pub endingOf : Merging → List ℕ → Answer × List ℕ
 endingOf m buffer = (answerOf m buffer, ifAccepted (answerOf m buffer) (placed (fileFor m) buffer) buffer)
-
--- the same of the code's answer
-abbrev pub ending : Merged → List ℕ → Answer × List ℕ
-ending (Done n l) buffer = (accepted (n ∷ l ∷ []), buffer)
-ending (Refused r) buffer = (refusal r, buffer)
 
 -- ---- the answer as 01 orders the checks
 

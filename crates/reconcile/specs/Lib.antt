@@ -1,5 +1,4 @@
 pub mod Crossproduct
 pub mod Rules
-pub mod Pass
-pub mod Stage
 pub mod Ending
+pub mod steps

@@ -150,10 +150,6 @@ abbrev pub Collected : Headers → List Entry → Entry → List Entry → Type 
 Collected hs front e back =
     (h : Header) → among hs h ≡ true → missed front h ≡ true → matches e h ≡ true → allowed back h ≡ actions (e .actions)
 
--- the same as a test
-abbrev pub collected : Headers → List Entry → Entry → List Entry → Bool
-collected hs front e back = noHeader hs λ h. missed front h && (matches e h && not (same (allowed back h) (actions (e .actions))))
-
 -- q is p after n entries were removed one by one, each collected in the list as it then stood (step 4 of Theorem 35)
 abbrev pub WithoutCollected : Headers → ℕ → List Entry → List Entry → Type 0
 WithoutCollected hs zero p q = q ≡ p

@@ -22,11 +22,12 @@ ghost use Prim.Native.Nat.{_*_, _/_, _≤_, min};
 ghost use lib.ListN.{length, take};
 ghost use Rattle.policy.specs.Header.{lies, headers};
 ghost use Rattle.policy.specs.Policy.{missed};
-ghost use Rattle.policy.specs.Rows.{rowSize, boxOf, rowsIn};
+ghost use Rattle.policy.specs.Sides.{boxOf};
+ghost use Rattle.policy.specs.steps.Rows.{rowSize, rowsIn};
 ghost use Rattle.wire.specs.Format.{recordSize, filedLimit, listLimit};
 ghost use Rattle.reconcile.specs.Rules.{noHeader, list, next};
-ghost use Rattle.reconcile.specs.Pass.{Apart, RowsOf};
-ghost use Rattle.reconcile.specs.Stage.{stageIn, filedIn};
+ghost use Rattle.reconcile.specs.steps.Pass.{Apart, RowsOf};
+ghost use Rattle.reconcile.specs.steps.Stage.{stageIn, filedIn};
 
 // Whether b has a header that the rows leave uncaught.
 pub(crate) fn is_left(rows: &[u32], b: &[u32; SIDES]) -> bool

@@ -19,11 +19,12 @@ ghost use Prim.Native.Nat.{_*_, _≤_};
 ghost use lib.ListN.{length, take};
 ghost use lib.Seq.{slice};
 ghost use Rattle.policy.specs.Header.{headers};
-ghost use Rattle.policy.specs.Rows.{rowSize, rowsFrom};
+ghost use Rattle.policy.specs.steps.Rows.{rowSize, rowsFrom};
 ghost use Rattle.wire.specs.Format.{listLimit};
 ghost use Rattle.reconcile.specs.Rules.{list, merged};
-ghost use Rattle.reconcile.specs.Stage.{stageIn, ended};
-ghost use Rattle.reconcile.specs.Ending.{ending, endingOf};
+ghost use Rattle.reconcile.specs.steps.Stage.{stageIn, ended};
+ghost use Rattle.reconcile.specs.steps.Ending.{ending};
+ghost use Rattle.reconcile.specs.Ending.{endingOf};
 
 pub enum Merged {
     // The file's entry count and length.

@@ -15,10 +15,10 @@ ghost use mathlib.Core.Option.{none, some};
 ghost use Prim.Native.Nat.{_*_};
 ghost use lib.ListN.{length};
 ghost use Rattle.policy.specs.Header.{headers};
-ghost use Rattle.policy.specs.Rows.{rowSize};
+ghost use Rattle.policy.specs.steps.Rows.{rowSize};
 ghost use Rattle.wire.specs.Format.{listLimit};
 ghost use Rattle.reconcile.specs.Rules.{trimmed, limited};
-ghost use Rattle.reconcile.specs.Stage.{stageIn, filedIn, added};
+ghost use Rattle.reconcile.specs.steps.Stage.{stageIn, filedIn, added};
 
 // As many numbers as the rows of the longest list have.
 pub const ROWS: usize = ROW * LIST_LIMIT;

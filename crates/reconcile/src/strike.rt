@@ -16,7 +16,7 @@ ghost use lib.Seq.{slice};
 ghost use Rattle.policy.specs.Header.{headers};
 ghost use Rattle.policy.specs.Least.{least};
 ghost use Rattle.policy.specs.Policy.{allowed};
-ghost use Rattle.policy.specs.Rows.{rowSize, rowAt, rowsFrom, rowsIn};
+ghost use Rattle.policy.specs.steps.Rows.{rowSize, rowAt, rowsFrom, rowsIn};
 ghost use Rattle.wire.specs.Format.{listLimit};
 ghost use Rattle.reconcile.specs.Rules.{isEmpty, needless, struck};
 

@@ -11,7 +11,8 @@ use lib.ListN.{length, length-append}
 use borrow.Author.Tests.{leb-true}
 use Rattle.policy.specs.declared.entry.Entry.{Entry}
 use Rattle.policy.specs.Row.{Row}
-use Rattle.policy.specs.Box.{Range, within, inside, lows}
+use Rattle.policy.specs.Box.{Range, within, inside}
+use Rattle.policy.specs.steps.Boxes.{lows}
 use Rattle.policy.specs.Header.{arity, fields, header, Box, lies}
 use Rattle.policy.specs.Policy.{missed}
 use Rattle.policy.proofs.Conjunctions.{paired}
@@ -22,8 +23,9 @@ use Rattle.policy.proofs.Slices.{length-rows}
 use Rattle.region.specs.declared.pick.Choice.{Choice}
 use Rattle.region.specs.declared.pick.Picked.{Picked}
 use Rattle.region.specs.declared.pick.Picked.the-variants.{Held, Free, Covered}
-use Rattle.policy.specs.Rows.{rowSize, boxOf, rowAt, rowsFrom, rowsIn}
-use Rattle.region.specs.Corner.{holdsCorner, reaches, Covers, Picks, numberOf, shifted, HoldsLast, Chooses, Better}
+use Rattle.policy.specs.Sides.{boxOf}
+use Rattle.policy.specs.steps.Rows.{rowSize, rowAt, rowsFrom, rowsIn}
+use Rattle.region.specs.steps.Corner.{holdsCorner, reaches, Covers, Picks, numberOf, shifted, HoldsLast, Chooses, Better}
 use Rattle.region.proofs.Members.{catches, in-left, in-right, row-in}
 
 -- ---- two lists

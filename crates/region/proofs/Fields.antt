@@ -11,17 +11,19 @@ use lib.Dec.{ltb, leb}
 use lib.ListN.{length, getD, set}
 use lib.Seq.{getD-set-same, getD-set-other}
 use borrow.Author.Tests.{ltb-true, ltb-false, lt-ltb, le-leb}
-use Rattle.policy.specs.Row.{Row, fits}
-use Rattle.policy.specs.Box.{Range, range, within, inside, lows}
-use Rattle.policy.specs.Cut.{empty, above}
+use Rattle.policy.specs.Row.{Row}
+use Rattle.policy.specs.Box.{Range, range, within, inside}
+use Rattle.policy.specs.steps.Boxes.{lows, fits}
+use Rattle.policy.specs.steps.Cut.{empty, above}
 use Rattle.policy.specs.Header.{arity, Box, everything, headers}
 use Rattle.policy.proofs.Bool.{and-left, and-right}
 use Rattle.policy.proofs.Conjunctions.{ends-are, paired}
 use Rattle.policy.proofs.Box.{le-high}
 use Rattle.region.specs.declared.cut.Candidate.{Candidate}
-use Rattle.policy.specs.Rows.{sides, rowOf, field, boxOf}
-use Rattle.region.specs.Corner.{holdsCorner, reaches}
-use Rattle.region.specs.Pieces.{upTo, atField, Short, Next, Offered}
+use Rattle.policy.specs.Sides.{rowOf, field, boxOf}
+use Rattle.policy.specs.steps.Rows.{sides}
+use Rattle.region.specs.steps.Corner.{holdsCorner, reaches}
+use Rattle.region.specs.steps.Pieces.{upTo, atField, Short, Next, Offered}
 use Rattle.policy.proofs.Every.{every-passed, row-ext}
 use Rattle.region.proofs.Holding.{reaches-every}
 

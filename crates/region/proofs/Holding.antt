@@ -6,14 +6,15 @@ use mathlib.Core.Bool.{Bool, true, false, not, _&&_}
 use mathlib.Core.List.{List}
 use lib.Dec.{leb}
 use borrow.Author.Tests.{lt-leb, le-leb}
-use Rattle.policy.specs.Box.{Range, within, inside, lows}
+use Rattle.policy.specs.Box.{Range, within, inside}
+use Rattle.policy.specs.steps.Boxes.{lows}
 use Rattle.policy.specs.Header.{arity}
-use Rattle.policy.specs.Rows.{rowOf, field, boxOf}
+use Rattle.policy.specs.Sides.{rowOf, field, boxOf}
 use Rattle.policy.proofs.Bool.{not-true, not-false}
 use Rattle.policy.proofs.Every.{every, Passed, one-fails, inside-every}
 use Rattle.policy.proofs.Loops.{passed-more, all-passed}
 use Rattle.policy.proofs.Conjunctions.{paired}
-use Rattle.region.specs.Corner.{reaches}
+use Rattle.region.specs.steps.Corner.{reaches}
 
 lows-fields : (k : ℕ) (h : ℕ → Range) → rowOf k (λ j. h j .low) ≡ lows k (rowOf k h)
 lows-fields zero h = refl

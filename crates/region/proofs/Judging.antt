@@ -14,7 +14,7 @@ use Rattle.policy.specs.declared.entry.Entry.{Entry}
 use Rattle.policy.specs.Row.{Row}
 use Rattle.policy.specs.Box.{meet, proper}
 use Rattle.policy.specs.Header.{arity, fields, header, before, Box, Headers}
-use Rattle.policy.specs.Found.{lesser}
+use Rattle.policy.specs.steps.Findings.{lesser}
 use Rattle.policy.specs.Least.{leastIn}
 use Rattle.policy.specs.Actions.{subset}
 use Rattle.policy.specs.Entry.{selector}
@@ -26,9 +26,10 @@ use Rattle.policy.proofs.Branch.{crossed-none}
 use Rattle.policy.proofs.Slices.{rows-split, rows-take}
 use Rattle.region.specs.declared.treated.Sets.{Sets}
 use Rattle.region.specs.declared.treated.Sets.the-variants.{Same, Other, Lacking}
-use Rattle.policy.specs.Rows.{rowSize, boxOf, rowAt, rowsFrom, rowsIn}
-use Rattle.region.specs.Corner.{improves}
-use Rattle.region.specs.Treated.{wanted}
+use Rattle.policy.specs.Sides.{boxOf}
+use Rattle.policy.specs.steps.Rows.{rowSize, rowAt, rowsFrom, rowsIn}
+use Rattle.region.specs.steps.Corner.{improves}
+use Rattle.region.specs.steps.Treated.{wanted}
 use Rattle.region.specs.Search.{foundAnswer}
 use Rattle.region.proofs.Uses.{leftIn, judged-wanted, judged-passed, judged-end, judged-exhausted}
 

@@ -13,13 +13,13 @@ use Rattle.policy.specs.declared.header.Found.the-variants.{At, Nothing}
 use Rattle.policy.specs.declared.entry.Entry.{Entry}
 use Rattle.policy.specs.declared.refusal.Refusal.{Refusal}
 use Rattle.policy.specs.declared.refusal.Refusal.the-variants.{Missized, Version, Count, Crossed, Gap}
-use Rattle.policy.specs.Box.{same}
+use Rattle.policy.specs.steps.Boxes.{sameBox}
 use Rattle.policy.specs.Header.{arity, Box, lies, Headers, headers, everything}
 use Rattle.policy.specs.Least.{least}
 use Rattle.policy.specs.Entry.{selector}
 use Rattle.policy.specs.Policy.{missed, Covering}
 use Rattle.policy.specs.Refusals.{Answer, refusal, accepted, isAccepted, refuse, refuseAt}
-use Rattle.policy.specs.Rows.{rowSize, rowAt, rowsIn}
+use Rattle.policy.specs.steps.Rows.{rowSize, rowAt, rowsIn}
 use Rattle.policy.proofs.Box.{same-box}
 use Rattle.policy.proofs.Least.{least-none}
 use Rattle.policy.proofs.Policy.{covering-by}
@@ -30,8 +30,9 @@ use Rattle.wire.specs.Format.{headSize, recordSize, countIn, entryAt, entriesFr
 use Rattle.wire.specs.Checks.{missized, badVersion, badCount, firstCrossed, refuseEntry, fileChecks, checksOf, checked}
 use Rattle.wire.proofs.Checked.{GoodFile, accepted-tells, good-tells, refused-tells}
 use Rattle.wire.proofs.Entries.{length-entries, entries-at}
-use Rattle.region.specs.Corner.{selectorIn}
-use Rattle.region.specs.ListChecks.{gapOf, gapChecked, listChecks, listChecksOf, InRows, Decoded}
+use Rattle.region.specs.steps.Corner.{selectorIn}
+use Rattle.region.specs.ListChecks.{gapOf, listChecks}
+use Rattle.region.specs.steps.Covering.{gapChecked, listChecksOf, InRows, Decoded}
 use Rattle.region.proofs.Members.{catches}
 use Rattle.region.proofs.Union.{in-everything}
 
@@ -41,7 +42,7 @@ use Rattle.region.proofs.Union.{in-everything}
 all-closes : (hs : Headers) (p : List Entry) (i : ℕ) → i < length p → selectorIn p i ≡ everything → least hs (missed p) ≡ Nothing
 all-closes hs p i l e = least-none hs (missed p) λ h a. catches p i l h (ap (λ (b : Box). lies b h) e ∙ in-everything hs h a)
 
-pub closed-by-all : (s : List ℕ) (n : ℕ) (t : Bool) → 1 ≤ n → t ≡ same arity (selector (entryAt s (headSize + recordSize * (n - 1)))) everything
+pub closed-by-all : (s : List ℕ) (n : ℕ) (t : Bool) → 1 ≤ n → t ≡ sameBox arity (selector (entryAt s (headSize + recordSize * (n - 1)))) everything
     → t ≡ true → gapOf (entriesFrom s headSize n) ≡ Nothing
 unfolding selectorIn
 closed-by-all s n t l e q =

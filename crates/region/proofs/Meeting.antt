@@ -8,12 +8,13 @@ use mathlib.Core.List.{List, [], _∷_}
 use lib.ListN.{length}
 use Rattle.policy.specs.declared.entry.Entry.{Entry}
 use Rattle.policy.specs.Row.{Row}
-use Rattle.policy.specs.Box.{inside, proper, lows, meet}
+use Rattle.policy.specs.Box.{inside, proper, meet}
+use Rattle.policy.specs.steps.Boxes.{lows}
 use Rattle.policy.specs.Header.{arity, Box}
 use Rattle.policy.specs.Entry.{selector}
 use Rattle.policy.proofs.Bool.{clash, is-false, and-intro, and-left, and-right}
 use Rattle.policy.proofs.Box.{corner-in, in-proper, meet-is}
-use Rattle.region.specs.Corner.{holdsCorner, selectorIn, meeting}
+use Rattle.region.specs.steps.Corner.{holdsCorner, selectorIn, meeting}
 use Rattle.region.proofs.Members.{first-in, later-in}
 use Rattle.region.proofs.Split.{Part, Outside}
 

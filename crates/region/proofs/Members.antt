@@ -14,8 +14,9 @@ use Rattle.policy.specs.Entry.{selector, matches}
 use Rattle.policy.specs.Policy.{missed}
 use Rattle.policy.proofs.Policy.{missed-cons}
 use Rattle.policy.proofs.Slices.{length-rows}
-use Rattle.policy.specs.Rows.{rowSize, boxOf, rowAt, rowsFrom, rowsIn}
-use Rattle.region.specs.Corner.{selectorIn}
+use Rattle.policy.specs.Sides.{boxOf}
+use Rattle.policy.specs.steps.Rows.{rowSize, rowAt, rowsFrom, rowsIn}
+use Rattle.region.specs.steps.Corner.{selectorIn}
 
 none-below : (i : ℕ) → i < 0 → ⊥
 none-below i l = omega arith

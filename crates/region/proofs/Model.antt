@@ -8,20 +8,21 @@ use Rattle.policy.specs.declared.header.Header.{Header}
 use Rattle.policy.specs.declared.header.Found.{Found}
 use Rattle.policy.specs.declared.header.Found.the-variants.{At, Nothing}
 use Rattle.policy.specs.declared.entry.Entry.{Entry}
-use Rattle.policy.specs.Box.{proper, lows, meet}
-use Rattle.policy.specs.Cut.{cut}
+use Rattle.policy.specs.Box.{proper, meet}
+use Rattle.policy.specs.steps.Boxes.{lows}
+use Rattle.policy.specs.steps.Cut.{cut}
 use Rattle.policy.specs.Header.{arity, fields, header, Box, lies, Headers, inAny, everything}
-use Rattle.policy.specs.Found.{lesser, minOver, minFrom}
-use Rattle.policy.specs.Least.{least, leastIn, always}
+use Rattle.policy.specs.steps.Findings.{lesser, minOver, minFrom}
+use Rattle.policy.specs.Least.{least, leastIn}
 use Rattle.policy.specs.Entry.{selector, matches}
 use Rattle.policy.specs.Policy.{actions, allowed, missed}
 use Rattle.policy.proofs.Bool.{and-right, or-left, or-right}
 use Rattle.policy.proofs.Box.{meet-is}
-use Rattle.policy.proofs.Branch.{leastIn-when, crossed-none, corner, over-set, branch}
+use Rattle.policy.proofs.Branch.{always, leastIn-when, crossed-none, corner, over-set, branch}
 use Rattle.policy.proofs.Policy.{missed-cons}
 use Rattle.region.specs.declared.treated.Sets.{Sets}
-use Rattle.region.specs.Corner.{Within}
-use Rattle.region.specs.Treated.{wanted, judged}
+use Rattle.region.specs.steps.Corner.{Within}
+use Rattle.region.specs.steps.Treated.{wanted, judged}
 use Rattle.region.proofs.Union.{min-map, least-everywhere}
 
 -- ---- the model

@@ -8,10 +8,11 @@ use mathlib.Core.Bool.{Bool, true, false, cond}
 use Rattle.policy.specs.declared.header.Header.{Header}
 use Rattle.policy.specs.declared.header.Found.{Found}
 use Rattle.policy.specs.declared.header.Found.the-variants.{At, Nothing}
-use Rattle.policy.specs.Row.{Row, precedes, fits}
-use Rattle.policy.specs.Box.{proper, lows}
+use Rattle.policy.specs.Row.{Row, precedes}
+use Rattle.policy.specs.Box.{proper}
+use Rattle.policy.specs.steps.Boxes.{lows, fits}
 use Rattle.policy.specs.Header.{arity, fields, header, before, Box, Headers, sizes}
-use Rattle.policy.specs.Found.{lesser}
+use Rattle.policy.specs.steps.Findings.{lesser}
 use Rattle.policy.specs.Least.{leastIn}
 use Rattle.policy.proofs.Bool.{clash, is-false}
 use Rattle.policy.proofs.Order.{Order, earlier, equal, later, order, pre-trans, pre-irrefl}
@@ -19,8 +20,8 @@ use Rattle.policy.proofs.Box.{corner-in, none-before}
 use Rattle.policy.proofs.Least.{among-fits}
 use Rattle.policy.proofs.Branch.{found-lies}
 use Rattle.policy.proofs.Conjunctions.{paired}
-use Rattle.policy.specs.Rows.{field, boxOf}
-use Rattle.region.specs.Corner.{Within, improves}
+use Rattle.policy.specs.Sides.{field, boxOf}
+use Rattle.region.specs.steps.Corner.{Within, improves}
 use Rattle.region.proofs.Fields.{fits-first, fits-rest}
 
 -- the low corner of a box of headers fits the widths of a header

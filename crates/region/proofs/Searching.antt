@@ -14,7 +14,7 @@ use Rattle.policy.specs.declared.entry.Entry.{Entry}
 use Rattle.policy.specs.declared.refusal.Refusal.{Refusal}
 use Rattle.policy.specs.Box.{meet}
 use Rattle.policy.specs.Header.{arity, Box, lies, Headers, headers}
-use Rattle.policy.specs.Found.{lesser}
+use Rattle.policy.specs.steps.Findings.{lesser}
 use Rattle.policy.specs.Least.{leastIn}
 use Rattle.policy.specs.Policy.{allowed, missed}
 use Rattle.policy.specs.Refusals.{refusal}
@@ -30,8 +30,9 @@ use Rattle.region.specs.declared.treated.Sets.the-variants.{Other}
 use Rattle.region.specs.declared.search.Want.{Want}
 use Rattle.region.specs.declared.search.Want.the-variants.{Uncaught, CaughtBy, Differs}
 use Rattle.region.specs.declared.search.Searched.{Searched}
-use Rattle.policy.specs.Rows.{rowSize, boxOf, rowAt, rowsFrom, rowsIn}
-use Rattle.region.specs.Treated.{judged}
+use Rattle.policy.specs.Sides.{boxOf}
+use Rattle.policy.specs.steps.Rows.{rowSize, rowAt, rowsFrom, rowsIn}
+use Rattle.region.specs.steps.Treated.{judged}
 use Rattle.region.specs.Search.{treated, foundAnswer, searchOf, searched}
 use Rattle.region.specs.ListChecks.{gapOf}
 use Rattle.region.proofs.Uses.{caught-by, caught-by-none, differs-judged}

@@ -8,15 +8,16 @@ use lib.Dec.{ltb, leb}
 use borrow.Author.Tests.{ltb-true, ltb-false, leb-true, lt-ltb, le-ltb, le-leb}
 use Rattle.policy.specs.declared.header.Header.{Header}
 use Rattle.policy.specs.Row.{Row}
-use Rattle.policy.specs.Box.{Range, range, within, inside, proper, lows}
-use Rattle.policy.specs.Cut.{empty, above}
+use Rattle.policy.specs.Box.{Range, range, within, inside, proper}
+use Rattle.policy.specs.steps.Boxes.{lows}
+use Rattle.policy.specs.steps.Cut.{empty, above}
 use Rattle.policy.specs.Header.{arity, fields, Box, lies, Headers}
-use Rattle.policy.specs.Found.{lesser}
+use Rattle.policy.specs.steps.Findings.{lesser}
 use Rattle.policy.specs.Least.{least, leastIn}
 use Rattle.policy.proofs.Bool.{clash, is-false, and-intro, and-left, and-right, same-truth}
 use Rattle.policy.proofs.Box.{low-le, le-high, within-by, in-first, in-rest, corner-in, above-is}
 use Rattle.policy.proofs.Least.{union}
-use Rattle.region.specs.Pieces.{upTo, atField, Short}
+use Rattle.region.specs.steps.Pieces.{upTo, atField, Short}
 
 -- x is past the end of field number f of s
 abbrev past : (k f : ℕ) → Row Range k → Row ℕ k → Bool

@@ -11,10 +11,11 @@ use Rattle.policy.specs.declared.header.Header.{Header}
 use Rattle.policy.specs.declared.header.Found.{Found}
 use Rattle.policy.specs.declared.header.Found.the-variants.{At, Nothing}
 use Rattle.policy.specs.declared.entry.Entry.{Entry}
-use Rattle.policy.specs.Box.{inside, proper, lows}
-use Rattle.policy.specs.Cut.{above}
+use Rattle.policy.specs.Box.{inside, proper}
+use Rattle.policy.specs.steps.Boxes.{lows}
+use Rattle.policy.specs.steps.Cut.{above}
 use Rattle.policy.specs.Header.{arity, fields, header, Box, lies, Headers, headers}
-use Rattle.policy.specs.Found.{lesser}
+use Rattle.policy.specs.steps.Findings.{lesser}
 use Rattle.policy.specs.Least.{leastIn}
 use Rattle.policy.specs.Policy.{missed}
 use Rattle.policy.proofs.Bool.{is-false, clash, not-true, not-false, and-left, and-right}
@@ -23,9 +24,9 @@ use Rattle.policy.proofs.Least.{least-none, lesser-assoc, lesser-comm}
 use Rattle.policy.proofs.Branch.{corner}
 use Rattle.region.specs.declared.pick.Picked.{Picked}
 use Rattle.region.specs.declared.pick.Picked.the-variants.{Held, Free, Covered}
-use Rattle.region.specs.Corner.{Within, improves, holdsCorner, reaches, selectorIn, Picks, PicksBefore, meeting}
-use Rattle.region.specs.Pieces.{upTo, atField, Short, Next}
-use Rattle.region.specs.Searchable.{Searchable, Ready, Same, Remainder}
+use Rattle.region.specs.steps.Corner.{Within, improves, holdsCorner, reaches, selectorIn, Picks, PicksBefore, meeting}
+use Rattle.region.specs.steps.Pieces.{upTo, atField, Short, Next}
+use Rattle.region.specs.steps.Searchable.{Searchable, Ready, Same, Remainder}
 use Rattle.region.proofs.Split.{split, upper-part, upper-outside, upper-proper, lower-part, lower-lows, lower-holds, shorts, shorts-fall}
 use Rattle.region.proofs.Meeting.{meets-corner, meeting-le, meeting-lt}
 use Rattle.region.proofs.Fields.{next-short, next-reaches}

@@ -11,18 +11,19 @@ use Rattle.policy.specs.declared.header.Header.{Header}
 use Rattle.policy.specs.declared.header.Found.{Found}
 use Rattle.policy.specs.declared.header.Found.the-variants.{Nothing}
 use Rattle.policy.specs.declared.entry.Entry.{Entry}
-use Rattle.policy.specs.Row.{Row, fits}
+use Rattle.policy.specs.Row.{Row}
+use Rattle.policy.specs.steps.Boxes.{fits}
 use Rattle.policy.specs.Box.{range, inside, proper, meet}
 use Rattle.policy.specs.Header.{arity, widths, fields, Box, lies, Headers, inAny, among, sizesOf, fulls, everything}
-use Rattle.policy.specs.Found.{lesser, minOver, minFrom}
+use Rattle.policy.specs.steps.Findings.{lesser, minOver, minFrom}
 use Rattle.policy.specs.Least.{least, leastIn}
 use Rattle.policy.specs.Policy.{missed}
 use Rattle.policy.proofs.Bool.{not-true, and-intro, and-right, or-left, or-right}
 use Rattle.policy.proofs.Box.{within-by, meet-is}
 use Rattle.policy.proofs.Least.{among-fits, agree, min-from, lesser-last}
 use Rattle.policy.proofs.Branch.{crossed-none, over-set}
-use Rattle.policy.specs.Rows.{rowSize, rowsIn}
-use Rattle.region.specs.Corner.{Within, meeting}
+use Rattle.policy.specs.steps.Rows.{rowSize, rowsIn}
+use Rattle.region.specs.steps.Corner.{Within, meeting}
 use Rattle.region.proofs.Meeting.{meeting-all}
 use Rattle.region.proofs.Fields.{fits-first, fits-rest}
 use Rattle.region.proofs.Members.{length-two}

@@ -14,7 +14,7 @@ use Rattle.policy.specs.declared.entry.Entry.{Entry}
 use Rattle.policy.specs.declared.entry.Caught.the-variants as catch
 use Rattle.policy.specs.Box.{meet}
 use Rattle.policy.specs.Header.{arity, fields, Box, lies, Headers}
-use Rattle.policy.specs.Found.{lesser}
+use Rattle.policy.specs.steps.Findings.{lesser}
 use Rattle.policy.specs.Least.{least, leastIn}
 use Rattle.policy.specs.Entry.{selector, matches}
 use Rattle.policy.specs.Policy.{catcherFrom, catcher, Allowed, actions, uncaught, allowed, missed, atMost, exceeds}
@@ -25,7 +25,7 @@ use Rattle.policy.proofs.Policy.{missed-cons, missed-append}
 use Rattle.region.specs.declared.treated.Sets.{Sets}
 use Rattle.region.specs.declared.treated.Sets.the-variants.{Other, Lacking}
 use Rattle.region.specs.declared.search.Want.the-variants as want
-use Rattle.region.specs.Treated.{wanted, judged}
+use Rattle.region.specs.steps.Treated.{wanted, judged}
 use Rattle.region.specs.Search.{isBy, differsFrom, treated}
 
 -- ---- the part of an entry

@@ -1,6 +1,3 @@
-pub mod Corner
-pub mod Pieces
-pub mod Searchable
-pub mod Treated
 pub mod Search
 pub mod ListChecks
+pub mod steps

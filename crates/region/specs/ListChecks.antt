@@ -1,43 +1,21 @@
 -- Checks 1 to 5 of a file: it holds a covering list (01, "What is turned down").
-use Prim.Native.Nat.{ℕ, _*_, _≤_}
-use mathlib.Core.Path.{_≡_}
+use Prim.Native.Nat.{ℕ}
 use mathlib.Core.List.{List, [], _∷_, _++_}
 use mathlib.Core.Option.{Option}
-use lib.ListN.{length, take}
 use Rattle.policy.specs.declared.header.Found.{Found}
 use Rattle.policy.specs.declared.entry.Entry.{Entry}
 use Rattle.policy.specs.declared.refusal.Refusal.the-variants.{Gap}
 use Rattle.policy.specs.Header.{headers}
 use Rattle.policy.specs.Least.{least}
 use Rattle.policy.specs.Policy.{missed}
-use Rattle.policy.specs.Refusals.{Answer, accepted, refuseAt, firstOf}
-use Rattle.policy.specs.Rows.{rowSize, rowsIn}
-use Rattle.wire.specs.declared.check.Checked.{Checked}
-use Rattle.wire.specs.declared.check.Checked.the-variants.{Good, Refused}
-use Rattle.wire.specs.Format.{countIn, listIn}
+use Rattle.policy.specs.Refusals.{Answer, refuseAt}
+use Rattle.wire.specs.Format.{listIn}
 use Rattle.wire.specs.Checks.{fileChecks}
 
 -- 5, gap: the least header not caught
 abbrev pub gapOf : List Entry → Found
 gapOf p = least headers (missed p)
 
--- check 5 alone, of a list of n entries
-abbrev pub gapChecked : Found → ℕ → Answer
-gapChecked gap n = firstOf (refuseAt Gap gap ∷ []) (accepted (n ∷ []))
-
 -- checks 1 to 5 of a file whose list may have up to `limit` entries, in their order
 abbrev pub listChecks : List ℕ → ℕ → List (Option Answer)
 listChecks s limit = fileChecks s limit ++ refuseAt Gap (gapOf (listIn s)) ∷ []
-
--- what they answer: the first refusal, or n
-unfoldable pub listChecksOf : List ℕ → ℕ → Answer
-listChecksOf s limit = firstOf (listChecks s limit) (accepted (countIn s ∷ []))
-
--- the first n rows are the list
-abbrev pub InRows : List ℕ → ℕ → List Entry → Type 0
-InRows rows n p = (rowSize * n ≤ length rows) × (rowsIn (take (rowSize * n) rows) ≡ p)
-
--- they are, if it was accepted
-abbrev pub Decoded : Checked → List ℕ → List Entry → Type 0
-Decoded (Good n) rows p = InRows rows n p
-Decoded (Refused r) rows p = Unit {0}

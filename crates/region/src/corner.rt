@@ -6,11 +6,10 @@ use policy::sides::SIDES;
 use policy::sides::low;
 ghost use mathlib.Core.Path.{_≡_};
 ghost use mathlib.Core.Bool.{true};
-ghost use Rattle.policy.specs.Row.{fits};
-ghost use Rattle.policy.specs.Box.{lows};
+ghost use Rattle.policy.specs.steps.Boxes.{lows, fits};
 ghost use Rattle.policy.specs.Header.{arity, header, sizes};
-ghost use Rattle.policy.specs.Rows.{boxOf};
-ghost use Rattle.region.specs.Corner.{improves};
+ghost use Rattle.policy.specs.Sides.{boxOf};
+ghost use Rattle.region.specs.steps.Corner.{improves};
 
 // The low corner of b as a header.
 pub fn low_corner(b: &[u32; SIDES]) -> Header

@@ -16,10 +16,11 @@ ghost use mathlib.Core.Bool.{true};
 ghost use Prim.Native.Nat.{_*_, _/_, _≤_, min};
 ghost use lib.ListN.{length};
 ghost use Rattle.policy.specs.declared.header.Found.the-variants.{Nothing};
-ghost use Rattle.policy.specs.Rows.{rowSize};
+ghost use Rattle.policy.specs.steps.Rows.{rowSize};
 ghost use Rattle.wire.specs.Format.{headSize, recordSize, filedLimit, listLimit, fileSize, entriesFrom, listIn};
 ghost use Rattle.wire.specs.Checks.{checked};
-ghost use Rattle.region.specs.ListChecks.{gapOf, gapChecked, listChecksOf, InRows, Decoded};
+ghost use Rattle.region.specs.ListChecks.{gapOf};
+ghost use Rattle.region.specs.steps.Covering.{gapChecked, listChecksOf, InRows, Decoded};
 
 // Whether the last of the n records of a good file is ALL: then its list has no gap, and none is searched for.
 pub(crate) fn ends_with_all(file: &[u8], n: usize) -> bool

@@ -6,11 +6,12 @@ ghost use mathlib.Core.Path.{_≡_};
 ghost use mathlib.Core.Bool.{true};
 ghost use Prim.Native.Nat.{_+_, _<_};
 ghost use lib.ListN.{length};
-ghost use Rattle.policy.specs.Cut.{above};
+ghost use Rattle.policy.specs.steps.Cut.{above};
 ghost use Rattle.policy.specs.Header.{arity};
-ghost use Rattle.policy.specs.Rows.{sides, boxOf};
-ghost use Rattle.region.specs.Corner.{holdsCorner};
-ghost use Rattle.region.specs.Pieces.{IsBox, upTo, atField, Short, Next, Offered};
+ghost use Rattle.policy.specs.Sides.{boxOf};
+ghost use Rattle.policy.specs.steps.Rows.{sides};
+ghost use Rattle.region.specs.steps.Corner.{holdsCorner};
+ghost use Rattle.region.specs.steps.Pieces.{IsBox, upTo, atField, Short, Next, Offered};
 
 // The number after x, which is below top.
 fn next_number(x: u32, top: u32) -> u32

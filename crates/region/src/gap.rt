@@ -6,7 +6,7 @@ ghost use mathlib.Core.Path.{_≡_};
 ghost use Rattle.policy.specs.Header.{headers};
 ghost use Rattle.policy.specs.Least.{least};
 ghost use Rattle.policy.specs.Policy.{missed};
-ghost use Rattle.policy.specs.Rows.{rowsIn};
+ghost use Rattle.policy.specs.steps.Rows.{rowsIn};
 
 // The least header that no row matches; nothing if the list is covering.
 pub fn first_gap(rows: &[u32]) -> Found

@@ -5,7 +5,7 @@ ghost use mathlib.Core.Path.{_≡_};
 ghost use Prim.Native.Nat.{_<_};
 ghost use lib.ListN.{getD, length};
 ghost use Rattle.policy.specs.Header.{headers, everything};
-ghost use Rattle.policy.specs.Rows.{boxOf};
+ghost use Rattle.policy.specs.Sides.{boxOf};
 
 // How many boxes the set has.
 pub const HEADER_BOXES: usize = 1;

@@ -5,13 +5,13 @@ use crate::cut::keep_up_to;
 use crate::cut::next_field;
 use crate::headers::HEADER_BOXES;
 use crate::headers::header_box;
-use crate::row::row_reaches;
 use crate::pick::Picked;
 use crate::pick::pick_before;
 use crate::pick::row_of_two;
 use crate::rank::LEVELS;
 use crate::rank::fewer;
 use crate::rank::rank_fields;
+use crate::row::row_reaches;
 use crate::size::goes_first;
 use crate::size::most_headers;
 use policy::header::Found;
@@ -25,12 +25,13 @@ ghost use mathlib.Core.Bool.{false};
 ghost use mathlib.Core.List.{_++_};
 ghost use lib.ListN.{length};
 ghost use Rattle.policy.specs.Header.{arity, headers};
-ghost use Rattle.policy.specs.Found.{lesser};
+ghost use Rattle.policy.specs.steps.Findings.{lesser};
 ghost use Rattle.policy.specs.Least.{leastIn};
 ghost use Rattle.policy.specs.Policy.{missed};
-ghost use Rattle.policy.specs.Rows.{sides, boxOf, rowsIn};
-ghost use Rattle.region.specs.Corner.{reaches};
-ghost use Rattle.region.specs.Searchable.{Searchable, Ready, Remainder};
+ghost use Rattle.policy.specs.Sides.{boxOf};
+ghost use Rattle.policy.specs.steps.Rows.{sides, rowsIn};
+ghost use Rattle.region.specs.steps.Corner.{reaches};
+ghost use Rattle.region.specs.steps.Searchable.{Searchable, Ready, Remainder};
 
 // Cuts s, a row that holds the low corner of x and not all of it, off x, field by field, and searches each part above it but one, which it leaves
 // in x. The row meets x, and none of these parts. The parts that are searched by a call have at most half of the headers of x.

@@ -16,10 +16,12 @@ ghost use mathlib.Core.Bool.{true, false};
 ghost use mathlib.Core.List.{_++_};
 ghost use Prim.Native.Nat.{_+_, _-_, _*_, _/_, _≤_, _<_};
 ghost use lib.ListN.{length};
-ghost use Rattle.policy.specs.Box.{lows, proper};
+ghost use Rattle.policy.specs.Box.{proper};
+ghost use Rattle.policy.specs.steps.Boxes.{lows};
 ghost use Rattle.policy.specs.Header.{arity, headers};
-ghost use Rattle.policy.specs.Rows.{sides, rowSize, boxOf, rowsIn};
-ghost use Rattle.region.specs.Corner.{Within, Picks, PicksBefore, HoldsLast, Chooses, Better, Covers, selectorIn, numberOf, shifted};
+ghost use Rattle.policy.specs.Sides.{boxOf};
+ghost use Rattle.policy.specs.steps.Rows.{sides, rowSize, rowsIn};
+ghost use Rattle.region.specs.steps.Corner.{Within, Picks, PicksBefore, HoldsLast, Chooses, Better, Covers, selectorIn, numberOf, shifted};
 
 // The number of a row that holds the low corner of a box; or no row holds it; or the rows hold all of the box.
 pub enum Picked {

@@ -11,7 +11,7 @@ use policy::sides::meets_row;
 ghost use Prim.Native.Nat.{_+_, _≤_, _<_};
 ghost use lib.ListN.{length};
 ghost use Rattle.policy.specs.Header.{arity};
-ghost use Rattle.policy.specs.Rows.{sides};
+ghost use Rattle.policy.specs.steps.Rows.{sides};
 
 // 1 if cut ends inside the row at a place in field f, and 0 if not.
 fn crosses(s: &[u32], at: usize, cut: &[u32; SIDES], f: usize) -> u32

@@ -9,10 +9,12 @@ use policy::sides::low_at;
 ghost use mathlib.Core.Path.{_≡_};
 ghost use Prim.Native.Nat.{_+_, _≤_};
 ghost use lib.ListN.{length};
-ghost use Rattle.policy.specs.Box.{inside, lows};
+ghost use Rattle.policy.specs.Box.{inside};
+ghost use Rattle.policy.specs.steps.Boxes.{lows};
 ghost use Rattle.policy.specs.Header.{arity};
-ghost use Rattle.policy.specs.Rows.{sides, boxOf};
-ghost use Rattle.region.specs.Corner.{reaches};
+ghost use Rattle.policy.specs.Sides.{boxOf};
+ghost use Rattle.policy.specs.steps.Rows.{sides};
+ghost use Rattle.region.specs.steps.Corner.{reaches};
 
 // Whether the row at a place holds the low corner of b. It is read as far as the first field that misses.
 pub fn holds_corner(s: &[u32], at: usize, b: &[u32; SIDES]) -> bool

@@ -23,7 +23,8 @@ ghost use Rattle.policy.specs.declared.header.Found.the-variants.{Nothing};
 ghost use Rattle.policy.specs.Header.{Box, headers};
 ghost use Rattle.policy.specs.Least.{leastIn};
 ghost use Rattle.region.specs.declared.search.Want.the-variants.{CaughtBy};
-ghost use Rattle.policy.specs.Rows.{rowSize, boxOf, rowsIn};
+ghost use Rattle.policy.specs.Sides.{boxOf};
+ghost use Rattle.policy.specs.steps.Rows.{rowSize, rowsIn};
 ghost use Rattle.wire.specs.Format.{headSize, filedLimit, listLimit, fileSize, entriesFrom};
 ghost use Rattle.region.specs.Search.{treated, foundAnswer, searchOf, searched};
 

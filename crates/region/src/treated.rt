@@ -16,11 +16,12 @@ ghost use lib.ListN.{length, take};
 ghost use mathlib.Core.List.{_++_};
 ghost use Rattle.policy.specs.Box.{meet, proper};
 ghost use Rattle.policy.specs.Header.{arity, headers};
-ghost use Rattle.policy.specs.Found.{lesser};
+ghost use Rattle.policy.specs.steps.Findings.{lesser};
 ghost use Rattle.policy.specs.Least.{leastIn};
 ghost use Rattle.policy.specs.Policy.{allowed, missed};
-ghost use Rattle.policy.specs.Rows.{rowSize, boxOf, rowAt, rowsIn};
-ghost use Rattle.region.specs.Treated.{wanted, judged};
+ghost use Rattle.policy.specs.Sides.{boxOf};
+ghost use Rattle.policy.specs.steps.Rows.{rowSize, rowAt, rowsIn};
+ghost use Rattle.region.specs.steps.Treated.{wanted, judged};
 
 // The action sets that are wanted.
 pub enum Sets {

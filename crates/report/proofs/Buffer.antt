@@ -7,7 +7,8 @@ use mathlib.Core.Path.{_≡_, refl, sym, _∙_, ap, subst}
 use mathlib.Core.List.{List, [], _∷_, _++_}
 use lib.ListN.{length, set, length-append}
 use lib.Seq.{take-nil, drop-nil, set-out}
-use Rattle.report.specs.Text.{withText, Printed}
+use Rattle.report.specs.Text.{withText}
+use Rattle.report.specs.steps.Printed.{Printed}
 
 -- the same, byte over byte
 over : List ℕ → ℕ → List ℕ → List ℕ

@@ -11,7 +11,8 @@ use lib.Dec.{ltb}
 use lib.ListN.{length, take, getD}
 use borrow.Author.Tests.{lt-ltb, le-ltb, ltb-false}
 use lib.Seq.{take-suc, take-all}
-use Rattle.report.specs.Text.{digit, decimalIn, decimal, hexByte, hex, Printed}
+use Rattle.report.specs.Text.{digit, decimalIn, decimal, hexByte, hex}
+use Rattle.report.specs.steps.Printed.{Printed}
 use Rattle.report.proofs.Buffer.{more, same}
 
 -- steps enough: more change nothing

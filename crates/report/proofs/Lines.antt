@@ -14,7 +14,8 @@ use Rattle.wire.specs.Format.{headerBytes}
 use Rattle.bench.specs.declared.calls.FileAnswer.{FileAnswer}
 use Rattle.bench.specs.declared.calls.FileAnswer.the-variants.{Filed, Refused}
 use Rattle.bench.specs.Answers.{filed}
-use Rattle.report.specs.Text.{ascii, decimal, hex, Printed}
+use Rattle.report.specs.Text.{ascii, decimal, hex}
+use Rattle.report.specs.steps.Printed.{Printed}
 use Rattle.report.specs.Report.{detail, refusedLine, filingLine}
 use Rattle.report.proofs.Buffer.{same}
 

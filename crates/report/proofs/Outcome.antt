@@ -23,7 +23,8 @@ use Rattle.bench.specs.declared.calls.Bench.{Bench}
 use Rattle.bench.specs.Answers.{mergedAs, mergingOf}
 use Rattle.bench.specs.Held.{bookOf}
 use Rattle.bench.specs.Calls.{merging, Result, resultOf}
-use Rattle.report.specs.Text.{ascii, decimal, Printed}
+use Rattle.report.specs.Text.{ascii, decimal}
+use Rattle.report.specs.steps.Printed.{Printed}
 use Rattle.report.specs.Report.{refusedLine, recordLines, mergingLines}
 use Rattle.report.proofs.Buffer.{same}
 

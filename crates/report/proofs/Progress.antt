@@ -11,7 +11,7 @@ use Rattle.bench.specs.Answers.{filingOf}
 use Rattle.bench.specs.Held.{openBench}
 use Rattle.bench.specs.Calls.{Call, filing, withdrawal, merging, benchFiled, benchAfter}
 use Rattle.bench.proofs.Trace.{bench-more}
-use Rattle.report.specs.Text.{Printed}
+use Rattle.report.specs.steps.Printed.{Printed}
 use Rattle.report.specs.Report.{fileRun, filingsOf, filingLine, filingLines}
 use Rattle.report.proofs.Buffer.{none, more, same}
 use Rattle.report.proofs.Framing.{from-place, none-left}

@@ -9,7 +9,8 @@ use mathlib.Core.List.{List, _++_, append-nil, append-assoc}
 use lib.ListN.{take, drop}
 use lib.Seq.{drop-drop}
 use Rattle.wire.specs.Format.{headSize, recordSize}
-use Rattle.report.specs.Text.{ascii, hex, Printed}
+use Rattle.report.specs.Text.{ascii, hex}
+use Rattle.report.specs.steps.Printed.{Printed}
 use Rattle.report.specs.Report.{recordLines}
 use Rattle.report.proofs.Buffer.{more, same}
 

@@ -17,7 +17,8 @@ use Rattle.bench.specs.Answers.{mergingOf}
 use Rattle.bench.specs.Held.{bookOf}
 use Rattle.bench.specs.Calls.{benchAfter}
 use Rattle.bench.proofs.Trace.{book-after}
-use Rattle.report.specs.Text.{ascii, withText, Printed}
+use Rattle.report.specs.Text.{ascii, withText}
+use Rattle.report.specs.steps.Printed.{Printed}
 use Rattle.report.specs.Report.{inputLimit, filingsOf, filingLines, mergingLines, mergeBuffer, linesOf, reportOf, reportSize}
 use Rattle.report.proofs.Buffer.{more, same}
 use Rattle.report.proofs.Length.{report-fits}

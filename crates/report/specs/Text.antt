@@ -1,8 +1,7 @@
 -- Text as bytes, and the buffer that it is put into.
-use Prim.Native.Nat.{ℕ, zero, suc, _+_, _-_, _/_, _%_, min}
+use Prim.Native.Nat.{ℕ, zero, suc, _+_, _-_, _/_, _%_}
 use Prim.Native.Char.{code}
 use Prim.Native.String.{String, [] as empty, _∷_ as _then_}
-use mathlib.Core.Path.{_≡_}
 use mathlib.Core.Bool.{cond}
 use mathlib.Core.List.{List, [], _∷_, _++_}
 use lib.Dec.{ltb}
@@ -37,8 +36,3 @@ hex (b ∷ s) = hexByte b ++ hex s
 -- the buffer with the text s from a place on, as much of it as there is room for
 abbrev pub withText : List ℕ → ℕ → List ℕ → List ℕ
 withText out at s = take at out ++ take (length out - at) s ++ drop (at + length s) out
-
--- s was put into the buffer `before` from a place on: the buffer after it, and the place behind what was put
-pub record Printed (before : List ℕ) (at : ℕ) (s : List ℕ) (after : List ℕ) (next : ℕ) : Type 0 where
-  pub contents : after ≡ withText before at s
-  pub end : next ≡ min (at + length s) (length before)

@@ -4,7 +4,7 @@ use crate::line::put_filing;
 use bench::calls::Bench;
 ghost use mathlib.Core.Path.{_≡_};
 ghost use Rattle.bench.specs.Calls.{benchAfter};
-ghost use Rattle.report.specs.Text.{Printed};
+ghost use Rattle.report.specs.steps.Printed.{Printed};
 ghost use Rattle.report.specs.Report.{filingsOf, filingLines};
 
 pub struct Filings {

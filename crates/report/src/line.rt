@@ -13,7 +13,8 @@ ghost use lib.ListN.{length};
 ghost use Rattle.policy.specs.Refusals.{numbers, refusal};
 ghost use Rattle.wire.specs.Format.{headerBytes};
 ghost use Rattle.bench.specs.Answers.{filed};
-ghost use Rattle.report.specs.Text.{ascii, decimal, hex, Printed};
+ghost use Rattle.report.specs.Text.{ascii, decimal, hex};
+ghost use Rattle.report.specs.steps.Printed.{Printed};
 ghost use Rattle.report.specs.Report.{detail, refusedLine, filingLine};
 
 // A space and a header.

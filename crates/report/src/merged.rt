@@ -8,7 +8,8 @@ ghost use mathlib.Core.List.{_++_};
 ghost use Prim.Native.Nat.{_≤_};
 ghost use lib.ListN.{length, drop};
 ghost use Rattle.wire.specs.Format.{headSize, fileSize};
-ghost use Rattle.report.specs.Text.{ascii, decimal, hex, Printed};
+ghost use Rattle.report.specs.Text.{ascii, decimal, hex};
+ghost use Rattle.report.specs.steps.Printed.{Printed};
 ghost use Rattle.report.specs.Report.{recordLines};
 
 // A record on its own line.

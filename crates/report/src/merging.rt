@@ -10,7 +10,7 @@ ghost use Prim.Native.Nat.{_≤_};
 ghost use lib.ListN.{length};
 ghost use Rattle.bench.specs.Answers.{mergingOf};
 ghost use Rattle.bench.specs.Held.{bookOf};
-ghost use Rattle.report.specs.Text.{Printed};
+ghost use Rattle.report.specs.steps.Printed.{Printed};
 ghost use Rattle.report.specs.Report.{mergingLines, mergeBuffer};
 
 // The length of the longest file.

@@ -3,7 +3,8 @@ ghost use mathlib.Core.Path.{_≡_};
 ghost use Prim.Native.Nat.{_≤_, _<_};
 ghost use mathlib.Core.List.{[], _∷_};
 ghost use lib.ListN.{length};
-ghost use Rattle.report.specs.Text.{decimal, digit as digitOf, hexByte, hex, Printed};
+ghost use Rattle.report.specs.Text.{decimal, digit as digitOf, hexByte, hex};
+ghost use Rattle.report.specs.steps.Printed.{Printed};
 
 fn put_byte(out: &mut [u8], at: usize, b: u8) -> usize
     requires { ⌜ at ≤ length (now out) ⌝ }

@@ -8,10 +8,11 @@ use mathlib.Core.List.{List, [], _∷_, _++_, append-nil}
 use lib.ListN.{length, take, drop}
 use lib.Seq.{paste, take-at}
 use Rattle.policy.specs.declared.entry.Entry.{Entry}
-use Rattle.policy.specs.Box.{same}
+use Rattle.policy.specs.steps.Boxes.{sameBox}
 use Rattle.policy.specs.Header.{arity, everything}
 use Rattle.policy.specs.Entry.{selector}
-use Rattle.policy.specs.Rows.{rowSize, boxOf, rowsIn, numbersOf, allNumbers}
+use Rattle.policy.specs.Sides.{boxOf}
+use Rattle.policy.specs.steps.Rows.{rowSize, rowsIn, numbersOf, allNumbers}
 use Rattle.policy.proofs.Numbers.{length-numbers, numbers-in, numbers-append}
 use Rattle.wire.specs.Format.{recordSize, entryAt, entriesFrom}
 use Rattle.wire.specs.Writing.{placed}
@@ -51,5 +52,5 @@ module _ (s b : List ℕ) (at : ℕ) where
 
 -- the record at a place, its sides compared with those of ALL
 pub compared-with-all : (s : List ℕ) (at : ℕ) (e : Entry) (x y : List ℕ) (t : Bool) → e ≡ entryAt s at → boxOf x 0 ≡ selector e → boxOf y 0 ≡ everything
-    → t ≡ same arity (boxOf x 0) (boxOf y 0) → t ≡ same arity (selector (entryAt s at)) everything
-compared-with-all s at e x y t g p q r = r ∙ ap₂ (same arity) (p ∙ ap selector g) q
+    → t ≡ sameBox arity (boxOf x 0) (boxOf y 0) → t ≡ sameBox arity (selector (entryAt s at)) everything
+compared-with-all s at e x y t g p q r = r ∙ ap₂ (sameBox arity) (p ∙ ap selector g) q

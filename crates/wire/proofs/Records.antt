@@ -12,8 +12,9 @@ use lib.Seq.{take-suc, take-add, drop-drop, drop-cons, getD-drop}
 use Rattle.policy.specs.declared.entry.Entry.{Entry}
 use lib.Dec.{ltb}
 use borrow.Author.Tests.{ltb-true, lt-ltb}
-use Rattle.policy.specs.Row.{Row, fits}
-use Rattle.policy.specs.Box.{Range, lows, highsFit}
+use Rattle.policy.specs.Row.{Row}
+use Rattle.policy.specs.Box.{Range, highsFit}
+use Rattle.policy.specs.steps.Boxes.{lows, fits}
 use Rattle.policy.specs.Header.{arity, sizes}
 use Rattle.policy.specs.Entry.{selector}
 use Rattle.policy.proofs.Bool.{and-left, and-right}

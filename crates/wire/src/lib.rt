@@ -2,10 +2,10 @@
 pub mod check;
 pub mod format;
 pub mod header;
-pub mod ranges;
 pub mod list;
 pub mod number;
 pub mod put;
+pub mod ranges;
 pub mod read;
 pub mod record;
 pub mod rows;

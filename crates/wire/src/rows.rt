@@ -11,10 +11,10 @@ ghost use mathlib.Core.Path.{_≡_};
 ghost use Prim.Native.Nat.{_+_, _*_, _≤_};
 ghost use lib.ListN.{length, take};
 ghost use lib.Seq.{paste};
-ghost use Rattle.policy.specs.Box.{same};
+ghost use Rattle.policy.specs.steps.Boxes.{sameBox};
 ghost use Rattle.policy.specs.Header.{arity, everything};
 ghost use Rattle.policy.specs.Entry.{selector};
-ghost use Rattle.policy.specs.Rows.{rowSize, rowsIn, numbersOf};
+ghost use Rattle.policy.specs.steps.Rows.{rowSize, rowsIn, numbersOf};
 ghost use Rattle.wire.specs.Format.{recordSize, entryAt, entriesFrom};
 
 // Copies numbers to a place.
@@ -53,7 +53,7 @@ pub fn decode_records(s: &[u8], at: usize, n: usize, rows: &mut [u32])
 // Whether the record at a place is 01's ALL: a list that ends with it has no gap.
 pub fn record_is_all(s: &[u8], at: usize) -> bool
     requires { ⌜ at + recordSize ≤ length (now s) ⌝ }
-    ensures { λ t. ⌜ t ≡ same arity (selector (entryAt (now (s .entry)) at)) everything ⌝ }
+    ensures { λ t. ⌜ t ≡ sameBox arity (selector (entryAt (now (s .entry)) at)) everything ⌝ }
 {
     let sides = sides_of(read_entry(s, at));
     let all = whole();

@@ -1,11 +1,11 @@
 -- Entries whose numbers fit the widths of their fields. Every entry in memory does, and one that does is read again from its record.
-use Prim.Native.Nat.{ℕ, _<_}
+use Prim.Native.Nat.{_<_}
 use mathlib.Core.Path.{_≡_}
 use mathlib.Core.Bool.{true}
 use mathlib.Core.List.{List, [], _∷_}
 use Rattle.policy.specs.declared.entry.Entry.{Entry}
-use Rattle.policy.specs.Row.{fits}
-use Rattle.policy.specs.Box.{lows, highsFit}
+use Rattle.policy.specs.Box.{highsFit}
+use Rattle.policy.specs.steps.Boxes.{lows, fits}
 use Rattle.policy.specs.Header.{arity, sizes}
 use Rattle.policy.specs.Entry.{selector}
 use Rattle.wire.specs.declared.check.Checked.{Checked}

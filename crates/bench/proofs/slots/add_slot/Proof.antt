@@ -6,7 +6,7 @@ use native.Mathlib.Omega.{arith}
 use mathlib.Core.Path.{_≡_}
 use lib.ListN.{length}
 use borrow.Author.Needs.{length-unmapped}
-use Rattle.reconcile.specs.Stage.{stageIn}
+use Rattle.reconcile.specs.steps.Stage.{stageIn}
 use Rattle.bench.proofs.Slotting.{slot-adds}
 use Rattle.bench.proofs.slots.add_slot.Statement.{statement}
 use Rattle.bench.proofs.slots.add_slot.Tie as tie

@@ -51,7 +51,7 @@ use Rattle.lookup.proofs.table.lookup_table as find
 use Rattle.lookup.proofs.table.lookup_table.Symbol as find-def
 use Rattle.lookup.proofs.table.lookup_table.Symbol.{name as #lookup·table·lookup-table}
 use Rattle.lookup.proofs.table.lookup_table.Met as find-thm
-use Rattle.measured.specs.Caught.{caughtNumber}
+use Rattle.measured.specs.steps.Numbers.{caughtNumber}
 use Rattle.measured.proofs.table.header_of as make
 use Rattle.measured.proofs.table.header_of.Symbol as make-def
 use Rattle.measured.proofs.table.header_of.Symbol.{name as #measured·table·header-of}

@@ -1,6 +1,6 @@
 -- The sides are computed.
 use mathlib.Core.Path.{refl}
-use Rattle.policy.specs.Rows.{boxOf}
+use Rattle.policy.specs.Sides.{boxOf}
 use Rattle.policy.proofs.header.whole.Statement.{statement}
 use Rattle.policy.proofs.header.whole.Tie as tie
 

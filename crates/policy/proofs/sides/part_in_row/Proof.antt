@@ -6,7 +6,7 @@ use native.Mathlib.Omega.{arith}
 use Prim.Native.Nat.{_≤_, _-_}
 use Rattle.policy.specs.Header.{arity}
 use Rattle.policy.specs.Box.{common}
-use Rattle.policy.specs.Rows.{field}
+use Rattle.policy.specs.Sides.{field}
 use Rattle.policy.proofs.Loops.{Filled, filled-more, filled-part}
 use Rattle.policy.proofs.sides.part_in_row.Statement.{statement}
 use Rattle.policy.proofs.sides.part_in_row.Tie as tie

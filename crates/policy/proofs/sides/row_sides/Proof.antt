@@ -4,7 +4,7 @@ use borrow.Author.Needs.{needs}
 use native.Mathlib.Omega.{arith}
 use Prim.Native.Nat.{_≤_, _-_}
 use Rattle.policy.specs.Header.{arity}
-use Rattle.policy.specs.Rows.{field}
+use Rattle.policy.specs.Sides.{field}
 use Rattle.policy.proofs.Loops.{Filled, filled-more, filled-row}
 use Rattle.policy.proofs.sides.row_sides.Statement.{statement}
 use Rattle.policy.proofs.sides.row_sides.Tie as tie

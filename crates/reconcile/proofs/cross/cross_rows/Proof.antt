@@ -4,7 +4,7 @@ use native.Mathlib.Omega.{arith}
 use Prim.Native.Nat.{_+_, _-_, _*_, _/_, _≤_}
 use mathlib.Core.Path.{_≡_}
 use lib.ListN.{length}
-use Rattle.policy.specs.Rows.{rowSize, rowsIn}
+use Rattle.policy.specs.steps.Rows.{rowSize, rowsIn}
 use Rattle.wire.specs.Format.{filedLimit, listLimit}
 use Rattle.reconcile.proofs.Keeping.{Keeps, keeps-none}
 use Rattle.reconcile.proofs.Pairs.{pairs, turn-ends, turn-shadowed, turn-full, turn-kept, crossed-all}

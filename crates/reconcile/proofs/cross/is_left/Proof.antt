@@ -1,6 +1,7 @@
 -- The search finds a header exactly if one is left.
 use borrow.Author.Needs.{needs}
-use Rattle.policy.specs.Rows.{boxOf, rowsIn}
+use Rattle.policy.specs.Sides.{boxOf}
+use Rattle.policy.specs.steps.Rows.{rowsIn}
 use Rattle.reconcile.proofs.Keeping.{left-some, left-none}
 use Rattle.reconcile.proofs.cross.is_left.Statement.{statement}
 use Rattle.reconcile.proofs.cross.is_left.Tie as tie

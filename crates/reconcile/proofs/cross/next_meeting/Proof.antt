@@ -1,8 +1,9 @@
 -- No row that is passed has a header in common with the box.
 use borrow.Author.Needs.{needs}
 use Prim.Native.Nat.{_-_}
-use Rattle.policy.specs.Rows.{boxOf, rowsIn}
-use Rattle.reconcile.specs.Pass.{Apart}
+use Rattle.policy.specs.Sides.{boxOf}
+use Rattle.policy.specs.steps.Rows.{rowsIn}
+use Rattle.reconcile.specs.steps.Pass.{Apart}
 use Rattle.reconcile.proofs.Pairs.{apart-none, apart-next}
 use Rattle.reconcile.proofs.cross.next_meeting.Statement.{statement}
 use Rattle.reconcile.proofs.cross.next_meeting.Tie as tie

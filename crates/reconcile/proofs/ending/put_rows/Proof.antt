@@ -4,7 +4,7 @@ use Rattle.wire.proofs.Lists.{zeroEntry}
 use Prim.Native.Nat.{_-_, _*_, _≤_}
 use mathlib.Core.Path.{_≡_, refl}
 use lib.ListN.{length}
-use Rattle.policy.specs.Rows.{rowSize}
+use Rattle.policy.specs.steps.Rows.{rowSize}
 use Rattle.wire.specs.Format.{listLimit}
 use Rattle.reconcile.proofs.Beside.{Beside, beside-more, beside-all}
 use Rattle.reconcile.proofs.ending.put_rows.Statement.{statement}

@@ -1,6 +1,6 @@
 -- The header is the least that the list allows the empty set.
 use borrow.Author.Needs.{needs}
-use Rattle.policy.specs.Rows.{rowsIn}
+use Rattle.policy.specs.steps.Rows.{rowsIn}
 use Rattle.reconcile.proofs.Finishing.{conflict-search}
 use Rattle.reconcile.proofs.strike.least_conflict.Statement.{statement}
 use Rattle.reconcile.proofs.strike.least_conflict.Tie as tie

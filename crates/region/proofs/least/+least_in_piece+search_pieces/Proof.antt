@@ -6,7 +6,8 @@ use native.Mathlib.Omega.{arith}
 use lib.ListN.{length}
 use borrow.Author.Needs.{needs}
 use Rattle.policy.specs.Header.{arity, headers}
-use Rattle.policy.specs.Rows.{sides, boxOf, rowsIn}
+use Rattle.policy.specs.Sides.{boxOf}
+use Rattle.policy.specs.steps.Rows.{sides, rowsIn}
 use Rattle.region.proofs.Steps.{Cutting, Open, next-field, cutting-first, cutting-again, cutting-anew, cutting-piece, cutting-falls, parted, open-free, open-covered, open-listed, open-ready, open-unreached, open-reached, open-again, falls-in, falls-down, less, under}
 use Rattle.region.proofs.Opening.{corner-fits}
 use Rattle.region.proofs.Fields.{next-short}

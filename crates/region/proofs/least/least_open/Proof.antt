@@ -8,7 +8,8 @@ use Rattle.policy.proofs.Bool.{not-false}
 use borrow.Author.Needs.{needs}
 use Rattle.policy.specs.Policy.{missed}
 use Rattle.policy.specs.Header.{headers}
-use Rattle.policy.specs.Rows.{boxOf, rowsIn}
+use Rattle.policy.specs.Sides.{boxOf}
+use Rattle.policy.specs.steps.Rows.{rowsIn}
 use Rattle.region.proofs.Union.{SoFar, set-again, set-crossed, set-all, part-headers, rows-few}
 use Rattle.region.proofs.least.least_open.Statement.{statement}
 use Rattle.region.proofs.least.least_open.Tie as tie

@@ -4,10 +4,11 @@ use Prim.Native.Nat.{_≤_, _<_, _-_, _*_, _/_}
 use mathlib.Core.Path.{_≡_}
 use mathlib.Core.Bool.{true}
 use lib.ListN.{length}
-use Rattle.policy.specs.Box.{lows}
+use Rattle.policy.specs.steps.Boxes.{lows}
 use Rattle.policy.specs.Header.{arity}
-use Rattle.policy.specs.Rows.{rowSize, boxOf}
-use Rattle.region.specs.Corner.{holdsCorner, HoldsLast, Chooses}
+use Rattle.policy.specs.Sides.{boxOf}
+use Rattle.policy.specs.steps.Rows.{rowSize}
+use Rattle.region.specs.steps.Corner.{holdsCorner, HoldsLast, Chooses}
 use Rattle.region.proofs.Choosing.{choose-first, choose-better}
 use Rattle.region.proofs.pick.choose.Statement.{statement}
 use Rattle.region.proofs.pick.choose.Tie as tie

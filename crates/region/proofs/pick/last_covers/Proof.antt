@@ -1,7 +1,7 @@
 -- It holds the low corner, and is asked whether it reaches every end.
 use mathlib.Core.Path.{refl, sym, _∙_}
 use Rattle.policy.proofs.Bool.{clash}
-use Rattle.policy.specs.Rows.{boxOf}
+use Rattle.policy.specs.Sides.{boxOf}
 use Rattle.region.proofs.Choosing.{last-covers}
 use borrow.Author.Needs.{needs}
 use Rattle.region.proofs.pick.last_covers.Statement.{statement}

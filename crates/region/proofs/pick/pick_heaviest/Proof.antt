@@ -1,5 +1,5 @@
 -- The choice decides.
-use Rattle.policy.specs.Rows.{boxOf}
+use Rattle.policy.specs.Sides.{boxOf}
 use Rattle.region.proofs.Choosing.{number-held}
 use borrow.Author.Needs.{needs}
 use Rattle.region.proofs.pick.pick_heaviest.Statement.{statement}

@@ -1,6 +1,7 @@
 -- What is chosen of either list is picked of both.
 use native.Mathlib.Omega.{arith}
-use Rattle.policy.specs.Rows.{boxOf, rowsIn}
+use Rattle.policy.specs.Sides.{boxOf}
+use Rattle.policy.specs.steps.Rows.{rowsIn}
 use Rattle.region.proofs.Choosing.{covers-left, covers-right, picks-left, picks-behind, number-held}
 use borrow.Author.Needs.{needs}
 use Rattle.region.proofs.pick.pick_of_both.Statement.{statement}

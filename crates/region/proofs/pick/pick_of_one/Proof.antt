@@ -1,6 +1,6 @@
 -- None holds the corner, one does, or the choice decides.
 use native.Mathlib.Omega.{arith}
-use Rattle.policy.specs.Rows.{boxOf}
+use Rattle.policy.specs.Sides.{boxOf}
 use Rattle.region.proofs.Choosing.{none-holds, number-held}
 use borrow.Author.Needs.{needs}
 use Rattle.region.proofs.pick.pick_of_one.Statement.{statement}

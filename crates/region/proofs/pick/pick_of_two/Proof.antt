@@ -3,7 +3,8 @@ use native.Mathlib.Omega.{arith}
 use Prim.Native.Nat.{_/_}
 use mathlib.Core.Path.{sym}
 use lib.ListN.{length}
-use Rattle.policy.specs.Rows.{rowSize, boxOf, rowsIn}
+use Rattle.policy.specs.Sides.{boxOf}
+use Rattle.policy.specs.steps.Rows.{rowSize, rowsIn}
 use Rattle.region.proofs.Choosing.{covers-left, covers-right, none-holds, picks-first, picks-second, picked-few}
 use Rattle.policy.proofs.Slices.{length-rows}
 use borrow.Author.Needs.{needs}

@@ -2,8 +2,8 @@
 use native.Mathlib.Omega.{arith}
 use Prim.Native.Nat.{_≤_, _-_}
 use Rattle.policy.specs.Header.{arity}
-use Rattle.policy.specs.Box.{lows}
-use Rattle.policy.specs.Rows.{boxOf}
+use Rattle.policy.specs.steps.Boxes.{lows}
+use Rattle.policy.specs.Sides.{boxOf}
 use Rattle.region.proofs.Choosing.{Passed, passed-none, passed-more, last-found, last-none}
 use Rattle.region.proofs.pick.up_to_last.Statement.{statement}
 use Rattle.region.proofs.pick.up_to_last.Tie as tie

@@ -1,9 +1,9 @@
 -- Before the first row there is none.
 use native.Mathlib.Omega.{arith}
 use Prim.Native.Nat.{_-_}
-use Rattle.policy.specs.Box.{lows}
+use Rattle.policy.specs.steps.Boxes.{lows}
 use Rattle.policy.specs.Header.{arity}
-use Rattle.policy.specs.Rows.{boxOf}
+use Rattle.policy.specs.Sides.{boxOf}
 use Rattle.region.proofs.Choosing.{passed-none, last-none}
 use borrow.Author.Needs.{needs}
 use Rattle.region.proofs.pick.up_to_next.Statement.{statement}

@@ -3,7 +3,7 @@ use borrow.Author.Needs.{needs}
 use native.Mathlib.Omega.{arith}
 use Prim.Native.Nat.{_≤_, _/_}
 use lib.ListN.{length}
-use Rattle.policy.specs.Rows.{rowSize}
+use Rattle.policy.specs.steps.Rows.{rowSize}
 use Rattle.region.proofs.rank.count_rows.Statement.{statement}
 use Rattle.region.proofs.rank.count_rows.Tie as tie
 

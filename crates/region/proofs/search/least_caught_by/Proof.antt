@@ -3,7 +3,8 @@ use Prim.Native.Nat.{_-_, _*_}
 use native.Mathlib.Omega.{arith}
 use borrow.Author.Needs.{needs}
 use Rattle.policy.specs.Header.{headers}
-use Rattle.policy.specs.Rows.{rowSize, boxOf}
+use Rattle.policy.specs.Sides.{boxOf}
+use Rattle.policy.specs.steps.Rows.{rowSize}
 use Rattle.region.proofs.Searching.{found-caught-by, found-by-none}
 use Rattle.region.proofs.search.least_caught_by.Statement.{statement}
 use Rattle.region.proofs.search.least_caught_by.Tie as tie

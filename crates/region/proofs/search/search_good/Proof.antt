@@ -1,6 +1,6 @@
 -- It is settled, or searched in an array of either size.
 use mathlib.Core.Path.{sym}
-use Rattle.policy.specs.Rows.{boxOf}
+use Rattle.policy.specs.Sides.{boxOf}
 use borrow.Author.Needs.{needs}
 use Rattle.region.proofs.search.search_good.Statement.{statement}
 use Rattle.region.proofs.search.search_good.Tie as tie

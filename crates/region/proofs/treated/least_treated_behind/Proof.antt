@@ -1,6 +1,7 @@
 -- Either front leaves nothing of the box, or it is searched.
 use Rattle.policy.specs.Header.{headers}
-use Rattle.policy.specs.Rows.{boxOf, rowsIn}
+use Rattle.policy.specs.Sides.{boxOf}
+use Rattle.policy.specs.steps.Rows.{rowsIn}
 use Rattle.region.proofs.Judging.{front-exhausts}
 use borrow.Author.Needs.{needs}
 use Rattle.region.proofs.treated.least_treated_behind.Statement.{statement}

@@ -2,7 +2,8 @@
 use Prim.Native.Nat.{_-_}
 use native.Mathlib.Omega.{arith}
 use Rattle.policy.specs.Header.{headers}
-use Rattle.policy.specs.Rows.{boxOf, rowsIn}
+use Rattle.policy.specs.Sides.{boxOf}
+use Rattle.policy.specs.steps.Rows.{rowsIn}
 use Rattle.region.proofs.Judging.{row-part}
 use borrow.Author.Needs.{needs}
 use Rattle.region.proofs.treated.with_entry.Statement.{statement}

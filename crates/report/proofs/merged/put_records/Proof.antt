@@ -4,7 +4,7 @@ use Prim.Native.Nat.{_-_, _≤_}
 use borrow.Author.Needs.{needs}
 use lib.ListN.{drop}
 use Rattle.wire.specs.Format.{headSize}
-use Rattle.report.specs.Text.{Printed}
+use Rattle.report.specs.steps.Printed.{Printed}
 use Rattle.report.specs.Report.{recordLines}
 use Rattle.report.proofs.Buffer.{none, keeps, within}
 use Rattle.report.proofs.Records.{record-more, all-records}

@@ -3,7 +3,7 @@
 use Prim.Native.Nat.{_-_, _≤_}
 use borrow.Author.Needs.{needs}
 use lib.ListN.{length, take}
-use Rattle.report.specs.Text.{Printed}
+use Rattle.report.specs.steps.Printed.{Printed}
 use Rattle.report.proofs.Buffer.{none, keeps, within}
 use Rattle.report.proofs.Digits.{byte-more, all-bytes}
 use Rattle.report.proofs.text.put.Statement.{statement}

@@ -3,7 +3,8 @@
 use Prim.Native.Nat.{_-_, _≤_}
 use borrow.Author.Needs.{needs}
 use lib.ListN.{length, take}
-use Rattle.report.specs.Text.{hex, Printed}
+use Rattle.report.specs.Text.{hex}
+use Rattle.report.specs.steps.Printed.{Printed}
 use Rattle.report.proofs.Buffer.{none, keeps, within}
 use Rattle.report.proofs.Digits.{hex-more, all-hex}
 use Rattle.report.proofs.text.put_hex.Statement.{statement}

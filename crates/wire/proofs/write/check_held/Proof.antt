@@ -58,11 +58,13 @@ loop-again c =
     let n = c .before .before .before .before .before .args .t1 .count in
     let k = places (c .before .before .before .before .before) in
     let more : l .i < length (take n es) = rw (length-take-le n es (omega arith)) (omega arith) in
-    let test = ap crossed (getD-take n es (l .i) zeroEntry (omega arith)) ∙ sym (c .before .is-entry-crossed .ensures .0) in
-    (search needs, (
-      scanned-next (take n es) (l .i) zeroEntry more (l .inv .1 .0) (test ∙ c .if1 .left),
-      fit-more es (l .i) zeroEntry (omega arith) (l .inv .1 .1) (c .before .is-entry-crossed .ensures .1),
-    ))
+    let test = ap crossed (getD-take n es (l .i) zeroEntry (omega arith)) ∙ sym (c .before .is-entry-crossed .ensures .0) in (
+      search needs,
+      (
+        scanned-next (take n es) (l .i) zeroEntry more (l .inv .1 .0) (test ∙ c .if1 .left),
+        fit-more es (l .i) zeroEntry (omega arith) (l .inv .1 .1) (c .before .is-entry-crossed .ensures .1),
+      ),
+    )
 
 returns-2 : tie.Need-returns-2 Inv-loop μ-loop
 returns-2 c =
@@ -70,8 +72,7 @@ returns-2 c =
     let es = c .before .before .args .t1 .entries in
     let n = c .before .before .args .t1 .count in
     let k = places (c .before .before) in
-    let end : l .i ≡ n = omega arith in
-    (
+    let end : l .i ≡ n = omega arith in (
       scanned-all (take n es) n (l .i) (rw (length-take-le n es (omega arith)) (omega arith)) (l .inv .1 .0),
       subst (λ (k : ℕ). AllFit (take k es)) end (l .inv .1 .1),
     )

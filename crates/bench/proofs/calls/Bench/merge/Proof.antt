@@ -4,7 +4,7 @@ use borrow.Author.Needs.{needs}
 use lib.ListN.{length-map}
 use Prim.Native.Nat.{_≤_, _-_}
 use native.Mathlib.Omega.{arith}
-use Rattle.reconcile.specs.Stage.{stageIn}
+use Rattle.reconcile.specs.steps.Stage.{stageIn}
 use Rattle.bench.proofs.Calling.{Staged, staged-none, staged-vacant, staged-next, merge-done, merge-refused}
 use Rattle.bench.proofs.calls.Bench.merge.Statement.{statement}
 use Rattle.bench.proofs.calls.Bench.merge.Tie as tie

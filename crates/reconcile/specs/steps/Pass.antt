@@ -8,7 +8,7 @@ use Rattle.policy.specs.declared.entry.Entry.{Entry}
 use Rattle.policy.specs.Box.{proper, meet}
 use Rattle.policy.specs.Header.{arity, Box, Headers}
 use Rattle.policy.specs.Entry.{selector}
-use Rattle.policy.specs.Rows.{rowSize, rowsIn}
+use Rattle.policy.specs.steps.Rows.{rowSize, rowsIn}
 use Rattle.wire.specs.Format.{recordSize, filedLimit, entriesFrom}
 use Rattle.wire.specs.Lists.{emptyEntry}
 use Rattle.reconcile.specs.Rules.{shadowed, Working, list, crowded, limited}

@@ -8,9 +8,10 @@ use lib.ListN.{length}
 use Rattle.policy.specs.Row.{Row}
 use Rattle.policy.specs.Box.{Range, range}
 use Rattle.policy.specs.Header.{arity, Box}
-use Rattle.policy.specs.Rows.{sides, boxOf}
+use Rattle.policy.specs.Sides.{boxOf}
+use Rattle.policy.specs.steps.Rows.{sides}
 use Rattle.region.specs.declared.cut.Candidate.{Candidate}
-use Rattle.region.specs.Corner.{reaches}
+use Rattle.region.specs.steps.Corner.{reaches}
 
 -- the sides are those of the box
 abbrev pub IsBox : List ℕ → Box → Type 0

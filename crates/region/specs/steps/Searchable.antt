@@ -8,10 +8,10 @@ use Rattle.policy.specs.declared.header.Found.{Found}
 use Rattle.policy.specs.declared.entry.Entry.{Entry}
 use Rattle.policy.specs.Box.{proper}
 use Rattle.policy.specs.Header.{arity, Box, Headers}
-use Rattle.policy.specs.Found.{lesser}
+use Rattle.policy.specs.steps.Findings.{lesser}
 use Rattle.policy.specs.Least.{leastIn}
 use Rattle.policy.specs.Policy.{missed}
-use Rattle.region.specs.Corner.{Within, holdsCorner, selectorIn, meeting}
+use Rattle.region.specs.steps.Corner.{Within, holdsCorner, selectorIn, meeting}
 
 -- a proper box of headers that at most so many entries meet
 pub record Searchable (hs : Headers) (es : List Entry) (b : Box) (left : ℕ) : Type 0 where

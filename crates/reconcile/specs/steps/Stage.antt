@@ -12,7 +12,7 @@ use Rattle.policy.specs.Least.{least}
 use Rattle.policy.specs.Policy.{allowed}
 use Rattle.wire.specs.Format.{recordSize, filedLimit, listLimit, entriesFrom}
 use Rattle.reconcile.specs.declared.stage.Stage.{Stage}
-use Rattle.reconcile.specs.Rules.{isEmpty, trimmed, Working, list, crowded, limited, next, Merging, refused, settled}
+use Rattle.reconcile.specs.Rules.{isEmpty, trimmed, Working, list, crowded, limited, next, Merging, refused, settled, working}
 
 -- the working list of the first n entries
 abbrev pub workingIn : List Entry → ℕ → Working

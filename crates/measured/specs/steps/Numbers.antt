@@ -1,4 +1,4 @@
--- The number that stands for the answer of a lookup in a table.
+-- The numbers that stand for answers in the calls that are timed.
 use Prim.Native.Nat.{ℕ}
 use lib.ListN.{getD}
 use Rattle.policy.specs.Refusals.{Answer}

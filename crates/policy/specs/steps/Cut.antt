@@ -1,4 +1,4 @@
--- What a selector leaves of a box (01, "Searching a region"), as smaller boxes. An empty piece is a crossed one.
+-- What a selector leaves of a box, as smaller boxes. An empty piece is a crossed one. The search cuts off one piece at a time, the part above.
 use Prim.Native.Nat.{ℕ, zero, suc, _+_, _-_, min, max}
 use mathlib.Core.Bool.{cond}
 use mathlib.Core.List.{List, [], _∷_, map}

@@ -1,12 +1,12 @@
--- Rows of numbers, as lists are searched: for each field of a header its low and its high, and then the action set. A box is such sides alone.
+-- Rows of numbers, as lists are searched: for each field of a header its low and its high, and then the action set.
 use Prim.Native.Nat.{ℕ, zero, suc, _+_, _*_, _/_}
 use mathlib.Core.List.{List, [], _∷_, _++_}
 use lib.ListN.{getD, length}
 use Rattle.policy.specs.declared.entry.Entry.{Entry}
 use Rattle.policy.specs.Row.{Row}
-use Rattle.policy.specs.Box.{Range, range}
-use Rattle.policy.specs.Header.{arity, Box}
+use Rattle.policy.specs.Header.{arity}
 use Rattle.policy.specs.Entry.{entry}
+use Rattle.policy.specs.Sides.{boxOf, field, rowOf}
 
 -- the sides of a box, and the numbers of a row
 abbrev pub sides : ℕ
@@ -14,21 +14,6 @@ sides = 2 * arity
 
 abbrev pub rowSize : ℕ
 rowSize = sides + 1
-
--- ---- from numbers
-
--- what g says of each field
-abbrev pub rowOf : {A : Type 0} → (k : ℕ) → (ℕ → A) → Row A k
-rowOf zero g = tt
-rowOf (suc k) g = (g 0, rowOf k λ j. g (suc j))
-
--- the range of field number j of the row at a place
-abbrev pub field : List ℕ → ℕ → ℕ → Range
-field s at j = range (getD s (2 * j + at) 0) (getD s (2 * j + 1 + at) 0)
-
--- the box of the row at a place
-unfoldable pub boxOf : List ℕ → ℕ → Box
-boxOf s at = rowOf arity (field s at)
 
 -- the numbers of a header, one for each field
 abbrev pub numbersIn : List ℕ → Row ℕ arity
@@ -46,8 +31,6 @@ rowsFrom s at (suc n) = rowAt s at ∷ rowsFrom s (at + rowSize) n
 -- the whole rows of a slice
 abbrev pub rowsIn : List ℕ → List Entry
 rowsIn s = rowsFrom s 0 (length s / rowSize)
-
--- ---- to numbers
 
 -- an entry's row
 abbrev pub numbersOf : Entry → List ℕ

@@ -1,0 +1,4 @@
+pub mod Cut
+pub mod Boxes
+pub mod Findings
+pub mod Rows

@@ -1,0 +1,5 @@
+pub mod Pass
+pub mod Stage
+pub mod Tests
+pub mod Catching
+pub mod Ending

@@ -1,0 +1,5 @@
+pub mod Corner
+pub mod Searchable
+pub mod Pieces
+pub mod Treated
+pub mod Covering
