@@ -76,6 +76,11 @@ abbrev pub cross : List Entry → List Entry → List Entry
 cross [] q = []
 cross (d ∷ p) q = map (both d) q ++ cross p q
 
+-- p crossed with each next list in turn
+abbrev pub crossAll : List Entry → List (List Entry) → List Entry
+crossAll p [] = p
+crossAll p (q ∷ qs) = crossAll (cross p q) qs
+
 -- ---- rule 2
 
 -- without the entries that have an empty selector
