@@ -9,7 +9,8 @@ use lib.ListN.{length, getD}
 use Rattle.policy.specs.declared.entry.Entry.{Entry}
 use Rattle.policy.proofs.Order.{Three, less, even, more, three}
 use Rattle.wire.specs.Lists.{emptyEntry}
-use Rattle.reconcile.specs.Crossproduct.{In, Distinct, both, Tuple, IsTuple, entryWith, entryOf, entriesOf, Precedes, Extends, OrderedCrossproduct}
+use Rattle.policy.specs.Entry.{both}
+use Rattle.reconcile.specs.Crossproduct.{In, Distinct, Tuple, IsTuple, entryWith, entryOf, entriesOf, Precedes, Extends, OrderedCrossproduct}
 use Rattle.reconcile.specs.Rules.{cross, crossAll}
 
 -- the n numbers from i on

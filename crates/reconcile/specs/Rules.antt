@@ -16,10 +16,9 @@ use Rattle.policy.specs.Box.{proper}
 use Rattle.policy.specs.Header.{arity, Headers, among}
 use Rattle.policy.specs.Least.{least}
 use Rattle.policy.specs.Actions.{has, shared}
-use Rattle.policy.specs.Entry.{selector, matches}
+use Rattle.policy.specs.Entry.{selector, matches, both}
 use Rattle.policy.specs.Policy.{Allowed, actions, uncaught, allowed, caught, missed}
 use Rattle.wire.specs.Format.{listLimit}
-use Rattle.reconcile.specs.Crossproduct.{both}
 
 -- ---- what is asked of every header
 

@@ -27,13 +27,6 @@ use Rattle.region.specs.steps.Pieces.{upTo, atField, Short, Next, Offere
 use Rattle.policy.proofs.Every.{every-passed, row-ext}
 use Rattle.region.proofs.Holding.{reaches-every}
 
--- a row of numbers that fit their sizes: the first, and the others
-pub fits-first : (k : ℕ) (ns x : Row ℕ (suc k)) → fits (suc k) ns x ≡ true → x .0 < ns .0
-fits-first k ns x f = ltb-true (x .0) (ns .0) (and-left (ltb (x .0) (ns .0)) (fits k (ns .1) (x .1)) f)
-
-pub fits-rest : (k : ℕ) (ns x : Row ℕ (suc k)) → fits (suc k) ns x ≡ true → fits k (ns .1) (x .1) ≡ true
-fits-rest k ns x f = and-right (ltb (x .0) (ns .0)) (fits k (ns .1) (x .1)) f
-
 -- ---- field number f of rows
 
 down : (f k : ℕ) → suc f < suc k → f < k
