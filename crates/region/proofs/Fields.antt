@@ -13,7 +13,7 @@ use lib.Seq.{getD-set-same, getD-set-other}
 use borrow.Author.Tests.{ltb-true, ltb-false, lt-ltb, le-leb}
 use Rattle.policy.specs.Row.{Row}
 use Rattle.policy.specs.Box.{Range, range, within, inside}
-use Rattle.policy.specs.steps.Boxes.{lows, fits}
+use Rattle.policy.specs.steps.Boxes.{lows}
 use Rattle.policy.specs.steps.Cut.{empty, above}
 use Rattle.policy.specs.Header.{arity, Box, everything, headers}
 use Rattle.policy.proofs.Bool.{and-left, and-right}

@@ -5,13 +5,12 @@ use native.Mathlib.Omega.{arith}
 use native.Mathlib.Nat.{zero-add}
 use native.Mathlib.Numerals.{add-one}
 use mathlib.Core.Path.{_≡_, refl, sym, _∙_, ap, ap₂, subst}
-use mathlib.Core.Bool.{true}
 use mathlib.Core.List.{List, [], _∷_, _++_}
 use lib.ListN.{length, getD, take, drop, length-drop}
 use lib.Seq.{take-suc, take-add, drop-drop, drop-cons, getD-drop}
 use Rattle.policy.specs.declared.entry.Entry.{Entry}
 use borrow.Author.Tests.{lt-ltb}
-use Rattle.policy.specs.Box.{range, highsFit}
+use Rattle.policy.specs.Box.{range}
 use Rattle.policy.specs.steps.Boxes.{lows, fits}
 use Rattle.policy.specs.Header.{arity, sizes}
 use Rattle.policy.specs.Entry.{selector}
