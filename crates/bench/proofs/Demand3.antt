@@ -18,7 +18,7 @@ use Rattle.policy.specs.declared.refusal.Refusal.{Refusal}
 use Rattle.policy.specs.declared.refusal.Refusal.the-variants.{Bare, Crowded, Conflict, Narrow}
 use Rattle.policy.specs.Header.{among, headers}
 use Rattle.policy.specs.Policy.{allowed, caught}
-use Rattle.policy.specs.Refusals.{Answer, refusal, accepted, isAccepted, numbers, refuse, firstOf}
+use Rattle.policy.specs.Refusals.{Answer, refusal, accepted, isAccepted, refuse, firstOf}
 use Rattle.policy.proofs.Bool.{clash, is-false, not-true}
 use Rattle.policy.proofs.Refusals.{refusal-number, refusal-same, refusal-clash}
 use Rattle.wire.specs.Format.{listIn, fileSize, fileOf}

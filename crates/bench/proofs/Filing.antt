@@ -6,20 +6,20 @@ use mathlib.Core.Path.{_≡_, sym, _∙_, ap}
 use mathlib.Core.Bool.{Bool, true, cond}
 use mathlib.Core.List.{List, [], _∷_}
 use mathlib.Core.Option.{none, some}
-use lib.ListN.{length, getD, drop, replicate, length-drop}
+use lib.ListN.{length, drop, replicate, length-drop}
 use lib.Seq.{take-append-seam}
 use borrow.Author.Tests.{ne-eqb}
-use Rattle.policy.specs.declared.refusal.Refusal.the-variants.{Party, Vacant}
+use Rattle.policy.specs.declared.refusal.Refusal.the-variants.{Party}
 use Rattle.policy.specs.Refusals.{accepted, isAccepted, refuse}
-use Rattle.policy.proofs.Refusals.{Pass, refuse-refuses, accepted-passes, refuse-passes}
+use Rattle.policy.proofs.Refusals.{refuse-refuses, accepted-passes, refuse-passes}
 use Rattle.wire.specs.Format.{headSize, recordSize, filedLimit, countIn, entriesFrom, recordsIn, listIn, fileSize}
 use Rattle.wire.proofs.Checked.{GoodFile}
 use Rattle.wire.proofs.Checks.{limits-told}
 use Rattle.wire.proofs.Entries.{entries-drop}
 use Rattle.region.specs.ListChecks.{listChecks}
 use Rattle.region.proofs.ListChecks.{GoodList, list-refuses, passes-tell}
-use Rattle.bench.specs.Book.{parties, Book}
-use Rattle.bench.specs.Answers.{badParty, filingOf, isVacant, withdrawalOf}
+use Rattle.bench.specs.Book.{parties}
+use Rattle.bench.specs.Answers.{badParty, filingOf}
 use Rattle.bench.specs.Held.{slotSize, slotWith, slotList, listInSlot}
 
 -- an accepted filing: the party is one, the file is good and its list covering
@@ -34,18 +34,6 @@ filing-tells p s e =
     let party = refuse-passes (badParty p) Party (listChecks s filedLimit) rows in
     let between = limits-told parties p (party .0) in
     record { low = between .0; high = between .1; file = passes-tell s filedLimit (party .1) }
-
--- an accepted withdrawal: the party is one
-pub withdrawal-tells : (k : Book) (p : ℕ) → isAccepted (withdrawalOf k p) ≡ true → (1 ≤ p) × (p ≤ parties)
-withdrawal-tells k p e = limits-told parties p (refuse-passes (badParty p) Party (refuse vacant Vacant ∷ []) rows .0)
-  where
-    vacant : Bool
-    vacant = isVacant (getD k (p - 1) none)
-
-    rows : Pass (refuse (badParty p) Party ∷ refuse vacant Vacant ∷ [])
-    rows =
-        accepted-passes (refuse (badParty p) Party ∷ refuse vacant Vacant ∷ []) (accepted [])
-        (refuse-refuses (badParty p) Party (refuse vacant Vacant ∷ []) (refuse-refuses vacant Vacant [] tt)) e
 
 -- the records behind the head of a good file are its list
 records-of : (s : List ℕ) (limit n : ℕ) → GoodFile s limit n → recordsIn (drop headSize s) ≡ listIn s

@@ -15,12 +15,12 @@ use Rattle.policy.specs.Row.{Row}
 use Rattle.policy.specs.Box.{Range, proper, highsFit, meet}
 use Rattle.policy.specs.steps.Boxes.{lows, fits}
 use Rattle.policy.specs.Header.{arity, sizes, headers}
-use Rattle.policy.specs.Entry.{selector}
+use Rattle.policy.specs.Entry.{selector, both}
 use Rattle.policy.proofs.Bool.{and-intro, and-left, and-right}
 use Rattle.wire.specs.Format.{listLimit, listIn, fileOf}
 use Rattle.wire.specs.steps.Fits.{Fits, AllFit}
 use Rattle.wire.proofs.RoundTrip.{written-and-read}
-use Rattle.reconcile.specs.Crossproduct.{In, both}
+use Rattle.reconcile.specs.Crossproduct.{In}
 use Rattle.reconcile.specs.Rules.{cross, dropEmpty, shadowed, dropShadowed, trimmed, Working, list, crowded, limited, next, nextAll, needless, struckFrom, merged, mergeOf}
 use Rattle.reconcile.proofs.Merging.{merges, merged-few}
 

@@ -1,11 +1,10 @@
 -- What the round trips answer, from the contracts of reading and writing.
 -- Assumes nothing.
-use Prim.Native.Nat.{ℕ, _-_, _≤_, _<_}
+use Prim.Native.Nat.{ℕ, _-_, _≤_}
 use native.Mathlib.Omega.{arith}
 use mathlib.Core.Path.{_≡_, refl, sym, _∙_, ap, subst}
 use mathlib.Core.Bool.{Bool, true, false}
-use mathlib.Core.List.{List, [], _∷_, _++_}
-use mathlib.Core.Option.{Option}
+use mathlib.Core.List.{List, [], _∷_}
 use lib.Dec.{ltb}
 use lib.ListN.{length, take}
 use borrow.Author.Tests.{ltb-true, ltb-false}
@@ -14,17 +13,15 @@ use Rattle.policy.specs.declared.refusal.Refusal.the-variants.{Narrow}
 use Rattle.policy.specs.Refusals.{Answer, refusal, accepted, refuse, firstOf}
 use Rattle.policy.proofs.Conjunctions.{paired}
 use Rattle.policy.proofs.Refusals.{refused-stays}
-use Rattle.wire.specs.declared.check.Checked.{Checked}
 use Rattle.wire.specs.declared.check.Checked.the-variants as check
 use Rattle.wire.specs.declared.list.Entries.{Entries}
 use Rattle.wire.specs.declared.read.Reading.{Reading}
 use Rattle.wire.specs.declared.write.Written.{Written}
 use Rattle.wire.specs.declared.write.Written.the-variants as write
 use Rattle.wire.specs.Format.{Bytes, listLimit, fileSize}
-use Rattle.wire.specs.Answers.{ifAccepted}
-use Rattle.wire.specs.Checks.{fileChecks, checksOf, checked}
+use Rattle.wire.specs.Checks.{checksOf, checked}
 use Rattle.wire.specs.Lists.{held, listed, reading, readingOf}
-use Rattle.wire.specs.Writing.{placed, writeChecks, writeAnswer, writing, writingOf, ReadAgain}
+use Rattle.wire.specs.Writing.{placed, writeChecks, writing, writingOf, ReadAgain}
 use Rattle.wire.proofs.Answers.{after-accepted, after-refused}
 use Rattle.wire.proofs.Checked.{accepted-tells, refused-tells}
 use Rattle.wire.proofs.RoundTrip.{file-again, file-narrow}

@@ -30,14 +30,6 @@ bench-more cs c = go openBench cs
     go b [] = refl
     go b (d ∷ cs) = go (benchStep b d) cs
 
-pub book-more : (cs : List Call) (c : Call) → bookAfter (cs ++ c ∷ []) ≡ bookStep (bookAfter cs) c
-unfolding bookAfter
-book-more cs c = go emptyBook cs
-  where
-    go : (k : Book) (cs : List Call) → bookFrom k (cs ++ c ∷ []) ≡ bookStep (bookFrom k cs) c
-    go k [] = refl
-    go k (d ∷ cs) = go (bookStep k d) cs
-
 -- ---- the bench holds the book
 
 map-set : {A B : Type 0} (f : A → B) (l : List A) (i : ℕ) (a : A) → map f (set l i a) ≡ set (map f l) i (f a)

@@ -1,20 +1,17 @@
 -- The numbers and bytes that C gets for each answer.
 -- Assumes nothing.
-use Prim.Native.Nat.{ℕ, _+_, _*_, _^_, _≤_, _<_}
+use Prim.Native.Nat.{ℕ, _+_, _*_, _^_, _<_}
 use native.Mathlib.Omega.{arith}
 use mathlib.Core.Path.{_≡_, sym, _∙_, ap}
 use mathlib.Core.Bool.{Bool, cond, _&&_}
-use mathlib.Core.List.{List, _++_}
-use lib.ListN.{length, drop}
-use lib.Seq.{paste}
-use borrow.Author.Tests.{le-leb, lt-leb}
+use mathlib.Core.List.{List}
 use mir.Syntax.{w32}
 use mir.Val.{Fits}
 use Rattle.policy.specs.declared.header.Header.{Header}
 use Rattle.policy.specs.declared.refusal.Refusal.{Refusal}
 use Rattle.policy.specs.Refusals.{refusal, numbers}
 use Rattle.policy.proofs.Refusals.{refusal-refuses}
-use Rattle.wire.specs.Format.{headerBytes}
+use Rattle.wire.specs.Format.{headerPut}
 use Rattle.lookup.specs.declared.file.Looked.{Looked}
 use Rattle.lookup.specs.declared.file.Looked.the-variants as look
 use Rattle.lookup.specs.Lookup.{looked, lookupOf}
@@ -22,7 +19,7 @@ use Rattle.lookup.proofs.FileLookup.{entry-small}
 use Rattle.compare.specs.declared.files.Compared.{Compared}
 use Rattle.compare.specs.declared.files.Compared.the-variants as comp
 use Rattle.compare.specs.Comparison.{ComparisonAnswer, compared, comparisonOf}
-use Rattle.gateway.specs.Exports.{firstValue, lookupNumber, hasHeader, comparisonNumber, headerSize, headerPut, headerLent}
+use Rattle.gateway.specs.Exports.{firstValue, lookupNumber, hasHeader, comparisonNumber, headerLent}
 
 -- ---- lookup
 
@@ -66,18 +63,6 @@ module _ (s t buffer : List ℕ) (r : Compared) (e : compared r ≡ comparisonOf
 
   pub refuses-second : (x : Refusal) (n : ℕ) → r ≡ comp.Second x → n ≡ refusal x .number → _≡_ {A = Exported} (512 + n, buffer) (exported (comparisonOf s t) buffer)
   refuses-second x n q m = refused-as 2 n x m (ap compared (sym q) ∙ e)
-
--- ---- the header's bytes
-
-pub header-put : (buffer bytes after : List ℕ) (h : Header) → headerSize ≤ length buffer → bytes ≡ headerBytes (numbers h)
-    → after ≡ paste buffer 0 bytes (length bytes) → after ≡ headerPut (numbers h) buffer
-header-put buffer bytes after h l e p =
-    p
-    ∙ ap (λ (b : List ℕ). paste buffer 0 b (length b)) e
-    ∙ sym (ap (λ (t : Bool). cond t (headerBytes (numbers h) ++ drop headerSize buffer) buffer) (le-leb headerSize (length buffer) l))
-
-pub header-kept : (buffer : List ℕ) (h : Header) → length buffer < headerSize → buffer ≡ headerPut (numbers h) buffer
-header-kept buffer h l = sym (ap (λ (t : Bool). cond t (headerBytes (numbers h) ++ drop headerSize buffer) buffer) (lt-leb headerSize (length buffer) l))
 
 -- ---- the numbers fit 32 bits
 

@@ -1,11 +1,9 @@
 -- What the C daemon gets (01, "Lookup and comparison"): numbers for the answers, and the header's bytes.
 use Prim.Native.Nat.{ℕ, _+_, _*_}
 use mathlib.Core.Bool.{Bool, true, false, cond, _&&_}
-use mathlib.Core.List.{List, [], _∷_, _++_}
-use lib.Dec.{leb}
-use lib.ListN.{length, drop}
+use mathlib.Core.List.{List, [], _∷_}
 use Rattle.policy.specs.Refusals.{Answer, isAccepted}
-use Rattle.wire.specs.Format.{headerBytes}
+use Rattle.wire.specs.Format.{headerPut}
 use Rattle.compare.specs.Comparison.{ComparisonAnswer}
 
 -- the first value, or another number where there is none
@@ -25,14 +23,6 @@ hasHeader (v ∷ vs) = true
 -- comparison: 0 for yes, 1 for no, or the file's number times 256 plus the refusal number
 abbrev pub comparisonNumber : ComparisonAnswer → ℕ
 comparisonNumber r = cond (isAccepted (r .answer)) (cond (hasHeader (r .answer .values)) 1 0) (r .file * 256 + r .answer .number)
-
--- how many bytes a header has
-abbrev pub headerSize : ℕ
-headerSize = 13
-
--- a header put at the start of a buffer, if it has 13 bytes
-abbrev pub headerPut : List ℕ → List ℕ → List ℕ
-headerPut vs buffer = cond (leb headerSize (length buffer)) (headerBytes vs ++ drop headerSize buffer) buffer
 
 -- the lent buffer after a comparison: on 1 the header goes to its first 13 bytes, if it has 13; no other byte is written
 abbrev pub headerLent : ComparisonAnswer → List ℕ → List ℕ

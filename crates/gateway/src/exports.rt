@@ -5,16 +5,14 @@ use lookup::file::Looked;
 use lookup::file::lookup_number;
 use policy::header::Header;
 use policy::refusal::number_of;
-use wire::header::header_bytes;
-use wire::put::put_bytes;
+use wire::header::put_header;
 ghost use mathlib.Core.Path.{_≡_};
 ghost use mathlib.Core.List.{List};
 ghost use Prim.Native.Nat.{ℕ};
 ghost use Rattle.policy.specs.Header.{header};
-ghost use Rattle.policy.specs.Refusals.{numbers};
 ghost use Rattle.lookup.specs.Lookup.{lookupOf};
 ghost use Rattle.compare.specs.Comparison.{comparisonOf};
-ghost use Rattle.gateway.specs.Exports.{lookupNumber, comparisonNumber, headerLent, headerPut};
+ghost use Rattle.gateway.specs.Exports.{lookupNumber, comparisonNumber, headerLent};
 
 // The number of the entry that catches the header, 256 if none does, or 256 plus the number of the refusal.
 #[no_mangle]
@@ -39,16 +37,6 @@ pub extern "C" fn policy_lookup(
         Looked::Entry(i) => i as u32,
         Looked::Uncaught => 256,
         Looked::Refused(r) => 256 + number_of(r) as u32,
-    }
-}
-
-// Puts the header at the start of the buffer, if it has 13 bytes.
-fn put_header(buffer: &mut [u8], h: Header)
-    ensures { λ _. ⌜ now (buffer .exit) ≡ headerPut (numbers h) (now (buffer .entry)) ⌝ }
-{
-    if 13 <= buffer.len() {
-        let bytes = header_bytes(h);
-        put_bytes(buffer, 0, &bytes);
     }
 }
 

@@ -1,2 +1,2 @@
-// What the gateway's C daemon calls; include/policy.h declares it.
+// What the gateway's C daemon calls; include/dunnarek/policy.h declares it.
 pub mod exports;

@@ -1,1 +1,2 @@
 pub mod PartLength
+pub mod Results

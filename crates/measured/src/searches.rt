@@ -1,17 +1,21 @@
 // The public search.
 use policy::entry::sides_of;
-use policy::header::Header;
 use policy::refusal::number_of;
 use region::search::Searched;
 use region::search::Want;
 use region::search::search_file;
 use wire::format::RECORD_SIZE;
-use wire::header::header_bytes;
-use wire::put::put_bytes;
+use wire::header::put_header;
 use wire::record::read_entry;
+ghost use mathlib.Core.Path.{_≡_};
+ghost use mathlib.Core.List.{List};
+ghost use Prim.Native.Nat.{ℕ};
+ghost use Rattle.measured.specs.steps.Numbers.{wanted, measuredSearch};
 
 // What is looked for: 0 for uncaught, 1 for caught by the entry of a number, else a set other than it.
-fn want_of(want: u32, value: u16) -> Want {
+fn want_of(want: u32, value: u16) -> Want
+    ensures { λ r. ⌜ r ≡ wanted want value ⌝ }
+{
     if want == 0 {
         return Want::Uncaught;
     }
@@ -19,14 +23,6 @@ fn want_of(want: u32, value: u16) -> Want {
         return Want::CaughtBy(value as usize);
     }
     Want::Differs(value)
-}
-
-// Puts the header at the start of the buffer, if it has 13 bytes.
-fn put_header(buffer: &mut [u8], h: Header) {
-    if 13 <= buffer.len() {
-        let bytes = header_bytes(h);
-        put_bytes(buffer, 0, &bytes);
-    }
 }
 
 // Searches the selector of a record: 0 for none, 1 with the header in the buffer, or 256 plus the number of the refusal. 512 if there is no
@@ -38,7 +34,9 @@ pub extern "C" fn measured_search(
     want: u32,
     value: u16,
     buffer: &mut [u8],
-) -> u32 {
+) -> u32
+    ensures { λ r. ⌜ _≡_ {A = ℕ × List ℕ} (r, now (buffer .exit)) (measuredSearch (now (file .entry)) (now («record» .entry)) want value (now (buffer .entry))) ⌝ }
+{
     if record.len() < RECORD_SIZE {
         return 512;
     }

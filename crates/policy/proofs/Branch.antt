@@ -18,16 +18,6 @@ use Rattle.policy.proofs.Least.{agree, union, lesser-assoc, least-at, l
 
 -- ---- extensionality
 
--- two properties that agree on the headers of the box
-pub leastIn-agree : (hs : Headers) (b : Box) (P Q : Header → Bool) → ((h : Header) → among hs h ≡ true → lies b h ≡ true → P h ≡ Q h)
-    → leastIn hs b P ≡ leastIn hs b Q
-unfolding leastIn
-leastIn-agree hs b P Q f = agree hs (λ h. lies b h && P h) (λ h. lies b h && Q h) λ h a. one (lies b h) (P h) (Q h) (f h a)
-  where
-    one : (b p q : Bool) → (b ≡ true → p ≡ q) → (b && p) ≡ (b && q)
-    one true p q g = g refl
-    one false p q g = refl
-
 -- ---- what is found lies in the box
 
 pub found-lies : (hs : Headers) (b : Box) (P : Header → Bool) (h : Header) → leastIn hs b P ≡ At h → lies b h ≡ true

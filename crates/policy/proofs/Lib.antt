@@ -11,4 +11,5 @@ pub mod Refusals
 pub mod Every
 pub mod Loops
 pub mod Numbers
+pub mod Corner
 pub mod Slices

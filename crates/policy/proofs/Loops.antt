@@ -159,9 +159,6 @@ filled-box r g f l e = row-ext arity (field r 0) g λ j m. e .1 j (wide j f m l)
     wide : (j f : ℕ) → j < arity → arity ≤ f → j < f
     wide j f m l = omega arith
 
-pub filled-none : (r : List ℕ) (g : ℕ → Range) → length r ≡ 2 * arity → Filled r g 0
-filled-none r g e = (e, λ j l. absurd (omega arith))
-
 pub filled-more : (r : List ℕ) (g : ℕ → Range) (f x y : ℕ) → f < arity → x ≡ g f .low → y ≡ g f .high → Filled r g f
     → Filled (set (set r (2 * f) x) (2 * f + 1) y) g (f + 1)
 filled-more r g f x y l p q e = (length-set (set r (2 * f) x) (2 * f + 1) y ∙ length-set r (2 * f) x ∙ e .0, λ j m. go j m (ltb j f) refl)

@@ -3,8 +3,9 @@ use Prim.Native.Nat.{ℕ}
 use mathlib.Core.Bool.{Bool, not}
 use Rattle.policy.specs.declared.header.Header.{Header}
 use Rattle.policy.specs.declared.entry.Entry.{Entry}
-use Rattle.policy.specs.Box.{range, proper}
+use Rattle.policy.specs.Box.{range, proper, meet}
 use Rattle.policy.specs.Header.{arity, Box, lies}
+use Rattle.policy.specs.Actions.{shared}
 
 -- the entry's selector: its five ranges
 abbrev pub selector : Entry → Box
@@ -45,3 +46,7 @@ matches e h = lies (selector e) h
 -- some range of the entry has its low above its high
 abbrev pub crossed : Entry → Bool
 crossed e = not (proper arity (selector e))
+
+-- selectors and action sets intersected
+abbrev pub both : Entry → Entry → Entry
+both d e = entry (meet arity (selector d) (selector e)) (shared (d .actions) (e .actions))

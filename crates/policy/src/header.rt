@@ -1,9 +1,12 @@
 // Headers, their order, and the box of them all.
 use crate::sides::FIELDS;
 use crate::sides::SIDES;
+use crate::sides::low;
 use crate::sides::precede;
 ghost use mathlib.Core.Path.{_≡_};
-ghost use Rattle.policy.specs.Header.{before, everything};
+ghost use mathlib.Core.Bool.{true};
+ghost use Rattle.policy.specs.steps.Boxes.{fits, lows};
+ghost use Rattle.policy.specs.Header.{arity, sizes, header, before, everything};
 ghost use Rattle.policy.specs.Refusals.{numbers};
 ghost use Rattle.policy.specs.Sides.{boxOf};
 
@@ -33,6 +36,20 @@ pub fn numbers_of(h: Header) -> [u32; FIELDS]
         h.remote_port as u32,
         h.protocol as u32,
     ]
+}
+
+// The low corner of b as a header.
+pub fn low_corner(b: &[u32; SIDES]) -> Header
+    requires { ⌜ fits arity sizes (lows arity (boxOf (now b) 0)) ≡ true ⌝ }
+    ensures { λ h. ⌜ h ≡ header (lows arity (boxOf (now (b .entry)) 0)) ⌝ }
+{
+    Header {
+        local: low(b, 0),
+        remote: low(b, 1),
+        local_port: low(b, 2) as u16,
+        remote_port: low(b, 3) as u16,
+        protocol: low(b, 4) as u8,
+    }
 }
 
 // Whether h comes before g.

@@ -2,5 +2,6 @@
 pub mod actions;
 pub mod entry;
 pub mod header;
+pub mod pair;
 pub mod refusal;
 pub mod sides;

@@ -6,11 +6,10 @@ use mathlib.Core.List.{List, [], _∷_, map}
 use Rattle.policy.specs.declared.header.Header.{Header}
 use Rattle.policy.specs.declared.entry.Entry.{Entry}
 use Rattle.policy.specs.Header.{arity, fields}
-use Rattle.policy.specs.Entry.{selector, matches}
+use Rattle.policy.specs.Entry.{selector, matches, both}
 use Rattle.policy.specs.Policy.{Allowed, actions, uncaught, allowed}
 use Rattle.policy.proofs.Box.{meet-is}
 use Rattle.policy.proofs.Policy.{orNext, allowed-append}
-use Rattle.reconcile.specs.Crossproduct.{both}
 use Rattle.reconcile.specs.Rules.{inBoth, cross}
 
 -- the intersection matches where both match

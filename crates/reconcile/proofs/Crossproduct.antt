@@ -14,12 +14,12 @@ use Rattle.policy.specs.declared.entry.Entry.{Entry}
 use Rattle.policy.specs.declared.entry.Caught.{Caught}
 use Rattle.policy.specs.declared.entry.Caught.the-variants.{By, Uncaught}
 use Rattle.policy.specs.Header.{Headers}
-use Rattle.policy.specs.Entry.{matches}
+use Rattle.policy.specs.Entry.{matches, both}
 use Rattle.policy.specs.Policy.{catcherFrom, catcher, Allowed, actions, uncaught, allowed, isCaught, missed, Covering}
 use Rattle.policy.proofs.Bool.{clash, is-false, not-true, and-intro, and-left, and-right}
 use Rattle.policy.proofs.Policy.{missed-cons, Catches, caught-by, uncaught-by, catches-allows}
 use Rattle.wire.specs.Lists.{emptyEntry}
-use Rattle.reconcile.specs.Crossproduct.{In, AllCovering, both, Tuple, IsTuple, entryWith, entryOf, entriesOf, Crossproduct, Precedes, Extends, OrderedCrossproduct}
+use Rattle.reconcile.specs.Crossproduct.{In, AllCovering, Tuple, IsTuple, entryWith, entryOf, entriesOf, Crossproduct, Precedes, Extends, OrderedCrossproduct}
 use Rattle.reconcile.specs.steps.Catching.{EachCatches}
 use Rattle.reconcile.specs.Rules.{inBoth, commonWith, commonActions}
 use Rattle.reconcile.proofs.Common.{common-caught, with-uncaught}

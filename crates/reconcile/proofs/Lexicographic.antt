@@ -9,13 +9,9 @@ use lib.ListN.{length, getD}
 use Rattle.policy.specs.declared.entry.Entry.{Entry}
 use Rattle.policy.proofs.Order.{Three, less, even, more, three}
 use Rattle.wire.specs.Lists.{emptyEntry}
-use Rattle.reconcile.specs.Crossproduct.{In, Distinct, both, Tuple, IsTuple, entryWith, entryOf, entriesOf, Precedes, Extends, OrderedCrossproduct}
-use Rattle.reconcile.specs.Rules.{cross}
-
--- p crossed with each next list in turn, nothing dropped
-abbrev pub crossAll : List Entry → List (List Entry) → List Entry
-crossAll p [] = p
-crossAll p (q ∷ qs) = crossAll (cross p q) qs
+use Rattle.policy.specs.Entry.{both}
+use Rattle.reconcile.specs.Crossproduct.{In, Distinct, Tuple, IsTuple, entryWith, entryOf, entriesOf, Precedes, Extends, OrderedCrossproduct}
+use Rattle.reconcile.specs.Rules.{cross, crossAll}
 
 -- the n numbers from i on
 abbrev pub numbersFrom : ℕ → ℕ → List ℕ

@@ -15,7 +15,7 @@ use borrow.Author.Tests.{ltb-true, ltb-false}
 use Rattle.policy.specs.declared.entry.Entry.{Entry}
 use Rattle.policy.specs.Box.{proper, meet}
 use Rattle.policy.specs.Header.{arity, Box, lies, headers}
-use Rattle.policy.specs.Entry.{selector}
+use Rattle.policy.specs.Entry.{selector, both}
 use Rattle.policy.specs.Policy.{missed}
 use Rattle.policy.specs.Sides.{boxOf}
 use Rattle.policy.specs.steps.Rows.{rowSize, rowAt, rowsIn, numbersOf}
@@ -24,7 +24,6 @@ use Rattle.wire.specs.Format.{recordSize, filedLimit, listLimit, entryAt, entri
 use Rattle.wire.specs.Lists.{emptyEntry}
 use Rattle.wire.proofs.Entries.{entries-at}
 use Rattle.wire.proofs.Lists.{zeroEntry}
-use Rattle.reconcile.specs.Crossproduct.{both}
 use Rattle.reconcile.specs.Rules.{noHeader, cross, Working, list, crowded, next}
 use Rattle.reconcile.specs.steps.Pass.{offeredAll, Apart, RowsOf}
 use Rattle.reconcile.specs.steps.Stage.{workingIn, filedIn}

@@ -12,12 +12,12 @@ use Rattle.policy.specs.Header.{Headers}
 use Rattle.policy.specs.Policy.{Allowed, allowed, isCaught, atMost, Covering, Equivalent, Refines, Implementable}
 use Rattle.policy.proofs.Policy.{equivalent-trans}
 use Rattle.reconcile.specs.Crossproduct.{AllCovering, Reconciles, CorrectReconciliation, PairwiseEquivalent, Tuple, entriesOf, OrderedCrossproduct}
-use Rattle.reconcile.specs.Rules.{noHeader, dropEmpty, Shadowed, WithoutShadowed, dropShadowed, trimmed, list, working, hasEmpty, lacking, Collected, WithoutCollected, merged, mergeOf}
+use Rattle.reconcile.specs.Rules.{noHeader, crossAll, dropEmpty, Shadowed, WithoutShadowed, dropShadowed, trimmed, list, working, hasEmpty, lacking, Collected, WithoutCollected, merged, mergeOf}
 use Rattle.reconcile.proofs.Common.{common-reconciles, common-widest}
 use Rattle.reconcile.proofs.Drop.{dropEmpty-allows, withoutShadowed-allows, trimmed-allows, empty-shadowed, shadowed-implementable}
 use Rattle.reconcile.proofs.Striking.{needless-is, collected-tells, collected-by, needless-tells, needless-by}
 use Rattle.reconcile.proofs.Crossproduct.{ordered-is, lemma19}
-use Rattle.reconcile.proofs.Lexicographic.{tuples, lexicographic}
+use Rattle.reconcile.proofs.Lexicographic.{tuples, lexicographic, crossAll-tuples}
 use Rattle.reconcile.proofs.Merging.{empty-lacking, merged-allows}
 
 -- ---- equivalent lists
@@ -107,9 +107,9 @@ lemma32 hs p = (empty-shadowed hs p, shadowed-implementable hs p)
 
 -- ---- mergings
 
--- there is an ordered crossproduct of any lists
-pub crossproduct-exists : (ps : List (List Entry)) → (ts : List Tuple) × OrderedCrossproduct ps ts
-crossproduct-exists ps = (tuples ps, lexicographic ps)
+-- rule 1: crossing with each next list in turn, with nothing dropped, gives an ordered crossproduct; so there is one
+pub rule1 : (p : List Entry) (ps : List (List Entry)) → (ts : List Tuple) × OrderedCrossproduct (p ∷ ps) ts × (crossAll p ps ≡ entriesOf (p ∷ ps) ts)
+rule1 p ps = (tuples (p ∷ ps), lexicographic (p ∷ ps), crossAll-tuples p ps)
 
 -- rule 3: an entry of the working list has an empty set exactly if some header has no common action
 pub rule3 : (hs : Headers) (p : List Entry) (ps : List (List Entry)) (w : List Entry) → working hs p ps ≡ list w

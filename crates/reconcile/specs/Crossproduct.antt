@@ -6,10 +6,8 @@ use mathlib.Core.Logic.{_⊎_}
 use mathlib.Core.List.{List, [], _∷_, map}
 use lib.ListN.{length, getD}
 use Rattle.policy.specs.declared.entry.Entry.{Entry}
-use Rattle.policy.specs.Box.{meet}
-use Rattle.policy.specs.Header.{arity, Headers}
-use Rattle.policy.specs.Actions.{shared}
-use Rattle.policy.specs.Entry.{selector, entry}
+use Rattle.policy.specs.Header.{Headers}
+use Rattle.policy.specs.Entry.{both}
 use Rattle.policy.specs.Policy.{Covering, Equivalent, Refines}
 use Rattle.wire.specs.Lists.{emptyEntry}
 
@@ -42,10 +40,6 @@ PairwiseEquivalent hs [] [] = Unit {0}
 PairwiseEquivalent hs [] (q ∷ qs) = ⊥
 PairwiseEquivalent hs (p ∷ ps) [] = ⊥
 PairwiseEquivalent hs (p ∷ ps) (q ∷ qs) = Equivalent hs p q × PairwiseEquivalent hs ps qs
-
--- selectors and action sets intersected
-abbrev pub both : Entry → Entry → Entry
-both d e = entry (meet arity (selector d) (selector e)) (shared (d .actions) (e .actions))
 
 abbrev pub Tuple : Type 0
 Tuple = List ℕ

@@ -16,10 +16,9 @@ use Rattle.policy.specs.Box.{proper}
 use Rattle.policy.specs.Header.{arity, Headers, among}
 use Rattle.policy.specs.Least.{least}
 use Rattle.policy.specs.Actions.{has, shared}
-use Rattle.policy.specs.Entry.{selector, matches}
+use Rattle.policy.specs.Entry.{selector, matches, both}
 use Rattle.policy.specs.Policy.{Allowed, actions, uncaught, allowed, caught, missed}
 use Rattle.wire.specs.Format.{listLimit}
-use Rattle.reconcile.specs.Crossproduct.{both}
 
 -- ---- what is asked of every header
 
@@ -75,6 +74,11 @@ allPermit k (p ∷ ps) h = permits k (allowed p h) && allPermit k ps h
 abbrev pub cross : List Entry → List Entry → List Entry
 cross [] q = []
 cross (d ∷ p) q = map (both d) q ++ cross p q
+
+-- p crossed with each next list in turn
+abbrev pub crossAll : List Entry → List (List Entry) → List Entry
+crossAll p [] = p
+crossAll p (q ∷ qs) = crossAll (cross p q) qs
 
 -- ---- rule 2
 

@@ -1,9 +1,9 @@
 // Rules 1 and 2: the working list is crossed with a party's list, pair by pair in lexicographic order.
-use crate::pair::both_entries;
 use crate::stage::Stage;
 use policy::entry::Entry;
 use policy::entry::sides_of;
 use policy::header::Found;
+use policy::pair::both_entries;
 use policy::sides::ROW;
 use policy::sides::SIDES;
 use policy::sides::meets_row;

@@ -1,6 +1,5 @@
 // Merging: crossing, dropping, conflict, striking.
 pub mod cross;
 pub mod ending;
-pub mod pair;
 pub mod stage;
 pub mod strike;

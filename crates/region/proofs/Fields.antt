@@ -13,7 +13,7 @@ use lib.Seq.{getD-set-same, getD-set-other}
 use borrow.Author.Tests.{ltb-true, ltb-false, lt-ltb, le-leb}
 use Rattle.policy.specs.Row.{Row}
 use Rattle.policy.specs.Box.{Range, range, within, inside}
-use Rattle.policy.specs.steps.Boxes.{lows, fits}
+use Rattle.policy.specs.steps.Boxes.{lows}
 use Rattle.policy.specs.steps.Cut.{empty, above}
 use Rattle.policy.specs.Header.{arity, Box, everything, headers}
 use Rattle.policy.proofs.Bool.{and-left, and-right}
@@ -26,13 +26,6 @@ use Rattle.region.specs.steps.Corner.{holdsCorner, reaches}
 use Rattle.region.specs.steps.Pieces.{upTo, atField, Short, Next, Offered}
 use Rattle.policy.proofs.Every.{every-passed, row-ext}
 use Rattle.region.proofs.Holding.{reaches-every}
-
--- a row of numbers that fit their sizes: the first, and the others
-pub fits-first : (k : ℕ) (ns x : Row ℕ (suc k)) → fits (suc k) ns x ≡ true → x .0 < ns .0
-fits-first k ns x f = ltb-true (x .0) (ns .0) (and-left (ltb (x .0) (ns .0)) (fits k (ns .1) (x .1)) f)
-
-pub fits-rest : (k : ℕ) (ns x : Row ℕ (suc k)) → fits (suc k) ns x ≡ true → fits k (ns .1) (x .1) ≡ true
-fits-rest k ns x f = and-right (ltb (x .0) (ns .0)) (fits k (ns .1) (x .1)) f
 
 -- ---- field number f of rows
 

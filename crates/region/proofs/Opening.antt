@@ -1,8 +1,6 @@
 -- The search of a box by its low corner: what prunes it, when the corner is the answer, and when nothing is left of it.
 -- Assumes nothing.
-use Prim.Native.Nat.{ℕ, zero, suc, _<_}
-use native.Mathlib.Omega.{arith}
-use mathlib.Core.List.{List}
+use Prim.Native.Nat.{ℕ}
 use mathlib.Core.Path.{_≡_, refl, sym, _∙_, ap, subst}
 use mathlib.Core.Bool.{Bool, true, false, cond}
 use Rattle.policy.specs.declared.header.Header.{Header}
@@ -19,10 +17,7 @@ use Rattle.policy.proofs.Order.{Order, earlier, equal, later, order, pre-trans,
 use Rattle.policy.proofs.Box.{corner-in, none-before}
 use Rattle.policy.proofs.Least.{among-fits}
 use Rattle.policy.proofs.Branch.{found-lies}
-use Rattle.policy.proofs.Conjunctions.{paired}
-use Rattle.policy.specs.Sides.{field, boxOf}
 use Rattle.region.specs.steps.Corner.{Within, improves}
-use Rattle.region.proofs.Fields.{fits-first, fits-rest}
 
 -- the low corner of a box of headers fits the widths of a header
 pub corner-fits : (hs : Headers) (b : Box) → Within hs b → proper arity b ≡ true → fits arity sizes (lows arity b) ≡ true
@@ -60,48 +55,3 @@ pruned hs P b best n = go (leastIn hs b P) refl best n
 
 pub improves-at : (h g : Header) (best : Found) (t : Bool) → best ≡ At g → t ≡ before h g → t ≡ improves h best
 improves-at h g best t e p = p ∙ ap (improves h) (sym e)
-
--- ---- the low corner of a box of sides as a header
-
-abbrev nth : (k f : ℕ) → Row ℕ k → ℕ
-nth zero f x = 0
-nth (suc k) zero x = x .0
-nth (suc k) (suc f) x = nth k f (x .1)
-
-fits-at : (k f : ℕ) (ns x : Row ℕ k) → f < k → fits k ns x ≡ true → nth k f x < nth k f ns
-fits-at zero f ns x l e = absurd (none f l)
-  where
-    none : (f : ℕ) → f < 0 → ⊥
-    none f l = omega arith
-fits-at (suc k) zero ns x l e = fits-first k ns x e
-fits-at (suc k) (suc f) ns x l e = fits-at k f (ns .1) (x .1) (down f k l) (fits-rest k ns x e)
-  where
-    down : (f k : ℕ) → suc f < suc k → f < k
-    down f k l = omega arith
-
-module _ (b : List ℕ) (e : fits arity sizes (lows arity (boxOf b 0)) ≡ true) where
-  pub local-port-fits : (x : ℕ) → x ≡ field b 0 2 .low → x < 65536
-  unfolding boxOf
-  local-port-fits x p = fit x (field b 0 2 .low) p (fits-at arity 2 sizes (lows arity (boxOf b 0)) (omega arith) e)
-    where
-      fit : (x y : ℕ) → x ≡ y → y < 65536 → x < 65536
-      fit x y e l = omega arith
-
-  pub remote-port-fits : (x : ℕ) → x ≡ field b 0 3 .low → x < 65536
-  unfolding boxOf
-  remote-port-fits x p = fit x (field b 0 3 .low) p (fits-at arity 3 sizes (lows arity (boxOf b 0)) (omega arith) e)
-    where
-      fit : (x y : ℕ) → x ≡ y → y < 65536 → x < 65536
-      fit x y e l = omega arith
-
-  pub protocol-fits : (x : ℕ) → x ≡ field b 0 4 .low → x < 256
-  unfolding boxOf
-  protocol-fits x p = fit x (field b 0 4 .low) p (fits-at arity 4 sizes (lows arity (boxOf b 0)) (omega arith) e)
-    where
-      fit : (x y : ℕ) → x ≡ y → y < 256 → x < 256
-      fit x y e l = omega arith
-
-pub corner-is : (b : List ℕ) (l r p q t : ℕ) → l ≡ field b 0 0 .low → r ≡ field b 0 1 .low → p ≡ field b 0 2 .low → q ≡ field b 0 3 .low → t ≡ field b 0 4 .low
-    → header (l, (r, (p, (q, (t, tt))))) ≡ header (lows arity (boxOf b 0))
-unfolding boxOf
-corner-is b l r p q t e f g h i = ap header (paired e (paired f (paired g (paired h (paired i refl)))))

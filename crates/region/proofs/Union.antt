@@ -25,7 +25,7 @@ use Rattle.policy.proofs.Branch.{crossed-none, over-set}
 use Rattle.policy.specs.steps.Rows.{rowSize, rowsIn}
 use Rattle.region.specs.steps.Corner.{Within, meeting}
 use Rattle.region.proofs.Meeting.{meeting-all}
-use Rattle.region.proofs.Fields.{fits-first, fits-rest}
+use Rattle.policy.proofs.Corner.{fits-first, fits-rest}
 use Rattle.region.proofs.Members.{length-two}
 
 -- the least over a list that is mapped

@@ -1,5 +1,4 @@
 // The least header of a box that no row of two lists matches.
-use crate::corner::low_corner;
 use crate::cut::keep_above;
 use crate::cut::keep_up_to;
 use crate::cut::next_field;
@@ -15,6 +14,7 @@ use crate::row::row_reaches;
 use crate::size::goes_first;
 use crate::size::most_headers;
 use policy::header::Found;
+use policy::header::low_corner;
 use policy::sides::FIELDS;
 use policy::sides::ROW;
 use policy::sides::SIDES;

@@ -1,9 +1,9 @@
 // A row that holds the low corner of a box.
 use crate::corner::is_improved;
-use crate::corner::low_corner;
 use crate::row::holds_corner;
 use crate::row::row_reaches;
 use policy::header::Found;
+use policy::header::low_corner;
 use policy::sides::FIELDS;
 use policy::sides::ROW;
 use policy::sides::SIDES;

@@ -9,7 +9,7 @@ use lib.Dec.{ltb}
 use lib.ListN.{length, getD, drop}
 use borrow.Author.Tests.{ltb-false}
 use Rattle.policy.specs.declared.refusal.Refusal.{Refusal}
-use Rattle.policy.specs.declared.refusal.Refusal.the-variants.{Bare, Crowded, Conflict, Narrow}
+use Rattle.policy.specs.declared.refusal.Refusal.the-variants.{Narrow}
 use Rattle.policy.specs.Refusals.{Answer, refusal, accepted, refuse, firstOf}
 use Rattle.policy.proofs.Refusals.{refusal-refuses, refusal-clash}
 use Rattle.wire.specs.Format.{headSize, fileSize}

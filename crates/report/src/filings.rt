@@ -13,7 +13,8 @@ pub struct Filings {
     pub at: usize,
 }
 
-pub(crate) fn put_filings(out: &mut [u8], input: &[u8]) -> Filings
+// Files the lists of the input on an empty bench, and puts the line of each at the start of the buffer.
+pub fn put_filings(out: &mut [u8], input: &[u8]) -> Filings
     ensures { λ r. ⌜ (r .bench ≡ benchAfter (filingsOf (now (input .entry)))) × Printed (now (out .entry)) 0 (filingLines (filingsOf (now (input .entry)))) (now (out .exit)) (r .at) ⌝ }
 {
     let mut bench = Bench::open();

@@ -1,5 +1,5 @@
 // The program's report: its whole output, from its input.
-mod filings;
+pub mod filings;
 mod frame;
 mod line;
 mod merged;

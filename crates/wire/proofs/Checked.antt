@@ -18,8 +18,8 @@ use Rattle.wire.specs.declared.check.Checked.{Checked}
 use Rattle.wire.specs.declared.check.Checked.the-variants.{Good, Refused}
 use Rattle.wire.specs.Format.{version, recordSize, lengthIn, versionIn, countIn, listIn, fileSize}
 use Rattle.wire.specs.Checks.{missized, badVersion, badCount, firstCrossedFrom, firstCrossed, refuseEntry, fileChecks, checksOf, checked}
-use Rattle.policy.proofs.Refusals.{Pass, Refuse, refuse-refuses, passes, first-of-append, refused-stays, not-refused}
-use Rattle.wire.proofs.Checks.{entry-refuses, size-told, limits-told, count-told, entry-not-refused}
+use Rattle.policy.proofs.Refusals.{passes, first-of-append, refused-stays, not-refused}
+use Rattle.wire.proofs.Checks.{size-told, limits-told, count-told, entry-not-refused}
 
 -- a file that passes, with n entries
 pub record GoodFile (s : List ℕ) (limit n : ℕ) : Type 0 where
@@ -68,17 +68,6 @@ accepted-tells s limit n e =
 
 pub good-tells : (s : List ℕ) (limit : ℕ) (r : Checked) (n : ℕ) → checked r ≡ checksOf s limit → r ≡ Good n → GoodFile s limit n
 good-tells s limit r n e g = accepted-tells s limit n (ap checked (sym g) ∙ e)
-
--- in the terms of policy's Rows: what the checks answer is no acceptance, and what it tells that none refuses
-pub checks-refuse : (s : List ℕ) (limit : ℕ) → Refuse (fileChecks s limit)
-checks-refuse s limit =
-    refuse-refuses (missized s) Missized (fromVersion s limit)
-    (refuse-refuses (badVersion s) Version (fromCount s limit)
-    (refuse-refuses (badCount s limit) Count (fromCrossed s)
-    (entry-refuses (firstCrossed (listIn s)) [] tt)))
-
-pub checks-pass : (s : List ℕ) (limit : ℕ) → Pass (fileChecks s limit) → GoodFile s limit (countIn s)
-checks-pass s limit p = accepted-tells s limit (countIn s) (sym (passes (fileChecks s limit) (accepted (countIn s ∷ [])) p))
 
 -- a refusal stands, whatever checks come after
 pub refused-tells : (s : List ℕ) (limit : ℕ) (r : Checked) (x : Refusal) → checked r ≡ checksOf s limit → r ≡ Refused x

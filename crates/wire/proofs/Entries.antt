@@ -1,12 +1,12 @@
 -- The records of a slice of bytes, as entries.
 -- Assumes nothing.
-use Prim.Native.Nat.{ℕ, zero, suc, _+_, _*_, _≤_, _<_}
+use Prim.Native.Nat.{ℕ, zero, suc, _+_, _*_, _<_}
 use native.Mathlib.Omega.{arith}
 use mathlib.Core.Path.{_≡_, refl, sym, _∙_, ap, ap₂}
 use mathlib.Core.List.{List, _∷_, _++_}
 use native.Mathlib.Nat.{zero-add, add-zero, suc-add, add-assoc}
-use lib.ListN.{length, getD, take, drop, List·getD-append}
-use lib.Seq.{getD-take, getD-drop, getD-append-add}
+use lib.ListN.{length, getD, drop}
+use lib.Seq.{getD-drop, getD-append-add}
 use Rattle.policy.specs.declared.entry.Entry.{Entry}
 use Rattle.wire.specs.Format.{recordSize, number2, number4, entryAt, entriesFrom}
 
@@ -98,12 +98,6 @@ entries-split s at (suc n) m =
 pub entries-drop : (s : List ℕ) (a at n : ℕ) → entriesFrom (drop a s) at n ≡ entriesFrom s (a + at) n
 entries-drop s a at n = same-entries (drop a s) s at (a + at) n λ i l. getD-drop a s (at + i) 0 ∙ ap (λ (k : ℕ). getD s k 0) (sym (add-assoc a at i))
 
-pub entries-take : (s : List ℕ) (m at n : ℕ) → at + recordSize * n ≤ m → entriesFrom (take m s) at n ≡ entriesFrom s at n
-entries-take s m at n h = same-entries (take m s) s at at n λ i l. getD-take m s (at + i) 0 (omega arith)
-
 -- the records of bytes after other bytes
 pub entries-after : (p s : List ℕ) (at n : ℕ) → entriesFrom (p ++ s) (length p + at) n ≡ entriesFrom s at n
 entries-after p s at n = same-entries (p ++ s) s (length p + at) at n λ i l. ap (λ (k : ℕ). getD (p ++ s) k 0) (add-assoc (length p) at i) ∙ getD-append-add p s (at + i) 0
-
-pub entries-before : (p s : List ℕ) (at n : ℕ) → at + recordSize * n ≤ length p → entriesFrom (p ++ s) at n ≡ entriesFrom p at n
-entries-before p s at n h = same-entries (p ++ s) p at at n λ i l. List·getD-append p s 0 (at + i) (omega arith)

@@ -10,3 +10,4 @@ pub mod Readings
 pub mod Writing
 pub mod RoundTrip
 pub mod PutRows
+pub mod PutHeader

@@ -5,19 +5,16 @@ use native.Mathlib.Omega.{arith}
 use native.Mathlib.Nat.{zero-add}
 use native.Mathlib.Numerals.{add-one}
 use mathlib.Core.Path.{_≡_, refl, sym, _∙_, ap, ap₂, subst}
-use mathlib.Core.Bool.{true}
 use mathlib.Core.List.{List, [], _∷_, _++_}
 use lib.ListN.{length, getD, take, drop, length-drop}
 use lib.Seq.{take-suc, take-add, drop-drop, drop-cons, getD-drop}
 use Rattle.policy.specs.declared.entry.Entry.{Entry}
-use lib.Dec.{ltb}
-use borrow.Author.Tests.{ltb-true, lt-ltb}
-use Rattle.policy.specs.Row.{Row}
-use Rattle.policy.specs.Box.{Range, highsFit}
+use borrow.Author.Tests.{lt-ltb}
+use Rattle.policy.specs.Box.{range}
 use Rattle.policy.specs.steps.Boxes.{lows, fits}
 use Rattle.policy.specs.Header.{arity, sizes}
 use Rattle.policy.specs.Entry.{selector}
-use Rattle.policy.proofs.Bool.{and-left, and-right}
+use Rattle.policy.proofs.Corner.{nth, fits-at, highs-at}
 use Rattle.wire.specs.Format.{Bytes, version, headSize, recordSize, number2, number4, lengthIn, versionIn, countIn, entryAt, entriesFrom, bytes2, bytes4, recordOf, recordsOf, headOf, fileSize, fileOf}
 use Rattle.wire.specs.steps.Fits.{Fits, AllFit}
 use Rattle.wire.proofs.Numbers.{split2, split4, join2, join4}
@@ -122,38 +119,22 @@ fit-more p i d l a f = subst AllFit (sym (ap (λ (n : ℕ). take n p) (add-one i
     joined [] b = (f, tt)
     joined (e ∷ q) b = (b .0, joined q (b .1))
 
-fit-first : (k : ℕ) (ns x : Row ℕ (suc k)) → fits (suc k) ns x ≡ true → (x .0 < ns .0) × (fits k (ns .1) (x .1) ≡ true)
-fit-first k ns x e =
-    (ltb-true (x .0) (ns .0) (and-left (ltb (x .0) (ns .0)) (fits k (ns .1) (x .1)) e), and-right (ltb (x .0) (ns .0)) (fits k (ns .1) (x .1)) e)
-
-high-first : (k : ℕ) (ns : Row ℕ (suc k)) (b : Row Range (suc k)) → highsFit (suc k) ns b ≡ true → (b .0 .high < ns .0) × (highsFit k (ns .1) (b .1) ≡ true)
-high-first k ns b e = (
-  ltb-true (b .0 .high) (ns .0) (and-left (ltb (b .0 .high) (ns .0)) (highsFit k (ns .1) (b .1)) e),
-  and-right (ltb (b .0 .high) (ns .0)) (highsFit k (ns .1) (b .1)) e,
-)
-
 -- the entry at the start of its own record
 pub entry-again : (e : Entry) (r : List ℕ) → Fits e → entryAt (recordOf e ++ r) 0 ≡ e
 entry-again e r f =
     let b = selector e in
     let x = lows arity b in
-    let l1 = fit-first 4 sizes x (f .low-ends) in
-    let l2 = fit-first 3 (sizes .1) (x .1) (l1 .1) in
-    let l3 = fit-first 2 (sizes .1 .1) (x .1 .1) (l2 .1) in
-    let l4 = fit-first 1 (sizes .1 .1 .1) (x .1 .1 .1) (l3 .1) in
-    let h1 = high-first 4 sizes b (f .high-ends) in
-    let h2 = high-first 3 (sizes .1) (b .1) (h1 .1) in
-    let h3 = high-first 2 (sizes .1 .1) (b .1 .1) (h2 .1) in
-    let h4 = high-first 1 (sizes .1 .1 .1) (b .1 .1 .1) (h3 .1) in
+    let low : (j : ℕ) → j < arity → nth 0 arity j x < nth 0 arity j sizes = λ j l. fits-at arity j sizes x l (f .low-ends) in
+    let high : (j : ℕ) → j < arity → nth (range 0 0) arity j b .high < nth 0 arity j sizes = λ j l. highs-at arity j sizes b l (f .high-ends) in
     λ i. record {
-      «local_low» = join4 (e .«local_low») (l1 .0) i;
-      «local_high» = join4 (e .«local_high») (h1 .0) i;
-      «remote_low» = join4 (e .«remote_low») (l2 .0) i;
-      «remote_high» = join4 (e .«remote_high») (h2 .0) i;
-      «local_port_low» = join2 (e .«local_port_low») (l3 .0) i;
-      «local_port_high» = join2 (e .«local_port_high») (h3 .0) i;
-      «remote_port_low» = join2 (e .«remote_port_low») (l4 .0) i;
-      «remote_port_high» = join2 (e .«remote_port_high») (h4 .0) i;
+      «local_low» = join4 (e .«local_low») (low 0 (omega arith)) i;
+      «local_high» = join4 (e .«local_high») (high 0 (omega arith)) i;
+      «remote_low» = join4 (e .«remote_low») (low 1 (omega arith)) i;
+      «remote_high» = join4 (e .«remote_high») (high 1 (omega arith)) i;
+      «local_port_low» = join2 (e .«local_port_low») (low 2 (omega arith)) i;
+      «local_port_high» = join2 (e .«local_port_high») (high 2 (omega arith)) i;
+      «remote_port_low» = join2 (e .«remote_port_low») (low 3 (omega arith)) i;
+      «remote_port_high» = join2 (e .«remote_port_high») (high 3 (omega arith)) i;
       «protocol_low» = e .«protocol_low»;
       «protocol_high» = e .«protocol_high»;
       actions = join2 (e .actions) (f .set) i;

@@ -1,7 +1,9 @@
 -- The file (01, "The file"): its lengths, places and limits are named here, and nowhere else.
 use Prim.Native.Nat.{ℕ, zero, suc, _+_, _*_, _/_, _%_, _<_}
+use mathlib.Core.Bool.{cond}
 use mathlib.Core.List.{List, [], _∷_, _++_}
-use lib.ListN.{getD, length}
+use lib.Dec.{leb}
+use lib.ListN.{getD, length, drop}
 use Rattle.policy.specs.declared.entry.Entry.{Entry}
 
 -- the version
@@ -99,6 +101,14 @@ recordsOf (e ∷ p) = recordOf e ++ recordsOf p
 -- a header's numbers as bytes: 4, 4, 2, 2 and 1
 abbrev pub headerBytes : List ℕ → List ℕ
 headerBytes v = bytes4 (getD v 0 0) ++ bytes4 (getD v 1 0) ++ bytes2 (getD v 2 0) ++ bytes2 (getD v 3 0) ++ getD v 4 0 ∷ []
+
+-- how many bytes a header has
+abbrev pub headerSize : ℕ
+headerSize = 13
+
+-- a header put at the start of a buffer, if it has 13 bytes
+abbrev pub headerPut : List ℕ → List ℕ → List ℕ
+headerPut v buffer = cond (leb headerSize (length buffer)) (headerBytes v ++ drop headerSize buffer) buffer
 
 -- how long the file of n entries is
 abbrev pub fileSize : ℕ → ℕ

@@ -1,8 +1,9 @@
 // A header's numbers as bytes.
+use crate::put::put_bytes;
 use policy::header::Header;
 ghost use mathlib.Core.Path.{_≡_};
 ghost use Rattle.policy.specs.Refusals.{numbers};
-ghost use Rattle.wire.specs.Format.{headerBytes};
+ghost use Rattle.wire.specs.Format.{headerBytes, headerPut};
 
 // The numbers of h, the highest byte of each first.
 pub fn header_bytes(h: Header) -> [u8; 13]
@@ -23,4 +24,14 @@ pub fn header_bytes(h: Header) -> [u8; 13]
         (h.remote_port % 256) as u8,
         h.protocol,
     ]
+}
+
+// Puts the header at the start of the buffer, if it has 13 bytes.
+pub fn put_header(buffer: &mut [u8], h: Header)
+    ensures { λ _. ⌜ now (buffer .exit) ≡ headerPut (numbers h) (now (buffer .entry)) ⌝ }
+{
+    if 13 <= buffer.len() {
+        let bytes = header_bytes(h);
+        put_bytes(buffer, 0, &bytes);
+    }
 }

@@ -262,6 +262,10 @@ fn limits(test: &mut Test) {
         let looked_up = |n| opened(&[Call::Lookup { file: Bytes(vec![1; n]), header: [0; 5] }]);
         test.check("a long file", &looked_up(length - looked_up(0).len()));
     }
+    // A file's length is right but for 65,536 bytes more.
+    let mut longer = file(&[Entry { selector: ALL, actions: 1 }]);
+    longer.resize(longer.len() + 65_536, 0);
+    test.check("a file and 64 KB", &opened(&[Call::Lookup { file: Bytes(longer), header: [0; 5] }]));
     let mut cut = vec![0; LONGEST_INPUT];
     cut[LONGEST_INPUT - 1] = 2;
     test.check("a long list, cut short", &cut);

@@ -4,6 +4,7 @@ use Prim.Native.Nat.{ℕ, _≤_, min}
 use native.Mathlib.Nat.{sub-zero}
 use native.Mathlib.Omega.{arith}
 use mathlib.Core.Path.{_≡_, sym, _∙_, ap}
+use mathlib.Core.List.{List}
 use lib.ListN.{take, length-replicate}
 use Rattle.report.specs.Report.{reportSize}
 use borrow.Author.Needs.{needs}
@@ -46,7 +47,7 @@ part-write-report-start c = search needs
 part-write-report-end : tie.Need-part-write-report-end
 part-write-report-end c =
     let reported = c .before .before .report in
-    within _ _ (reported .ensures .0 .1) (reported .kept .1 .0)
+    within _ _ (ap (λ (x : ℕ × List ℕ). x .0) (reported .ensures .0)) (reported .kept .1 .0)
 
 write-report-requires : tie.Need-write-report-requires
 write-report-requires c κs =

@@ -1,6 +1,6 @@
 -- From the opening on, each call carries the list of calls along, and the merging has demand 3 for it.
 -- Assumes nothing.
-use mathlib.Core.Path.{_≡_, _∙_, sym, ap}
+use mathlib.Core.Path.{_∙_, sym, ap}
 use mathlib.Core.List.{[]}
 use borrow.Author.Needs.{needs}
 use Rattle.bench.specs.declared.calls.Bench.{Bench}

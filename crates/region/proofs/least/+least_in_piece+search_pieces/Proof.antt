@@ -21,7 +21,7 @@ use Rattle.region.proofs.least.+least_in_piece+search_pieces.Lts-least_
 use Rattle.region.proofs.least.search_pieces.Reads as search-pieces
 use Rattle.region.proofs.least.search_pieces.Kinds as search-pieces-kinds
 use Rattle.region.proofs.least.+least_in_piece+search_pieces.Lts-search_pieces as search-pieces-lts
-use Rattle.region.proofs.corner.low_corner.Reads as low-corner-reads
+use Rattle.policy.proofs.header.low_corner.Reads as low-corner-reads
 use Rattle.region.proofs.cut.keep_above.Reads as keep-above-reads
 use Rattle.region.proofs.cut.keep_up_to.Reads as keep-up-to-reads
 use Rattle.region.proofs.cut.next_field.Reads as next-field-reads
@@ -188,7 +188,7 @@ search-pieces-loop-less : (t : ℕ) → search-pieces-lts.Need-loop-less (ks t) 
 search-pieces-loop-less t c = cutting-falls _ _ _ _ _ _ _ _ _ _ _ _ (c .before .before .before .before .before .before .before .before .before .before .before .before .before .before .before .loop .inv .1) (c .before .before .before .before .before .before .before .before .before .before .before .before .before .before .loop-test .taken) _ _ (c .before .before .before .before .before .before .before .before .before .before .before .keep-above2 .ensures .1) (c .before .before .before .before .before .before .before .before .before .keep-up-to2 .ensures .1) (c .before .before .before .before .before .before .next-field3 .ensures)
 
 search-pieces-loop-again : (t : ℕ) → search-pieces-lts.Need-loop-again (ks t) (search-pieces-at t) search-pieces.Post search-pieces-Inv-loop search-pieces-μ-loop
-search-pieces-loop-again t c = ((search needs, search needs), search cutting-again)
+search-pieces-loop-again t c = ((search needs, search needs), cutting-again _ _ _ _ _ _ _ _ _ _ _ _ (c .before .before .before .before .before .before .before .before .before .before .before .before .before .before .before .loop .inv .1) (c .before .before .before .before .before .before .before .before .before .before .before .before .before .before .loop-test .taken) _ _ (c .before .before .before .before .before .before .before .before .before .before .before .keep-above2 .ensures .1) (c .before .before .before .before .before .before .before .before .before .keep-up-to2 .ensures .1) (c .before .before .before .before .before .before .next-field3 .ensures) _ (c .least-in-piece .ensures))
 
 search-pieces-sub-least-in-piece-2 : (t : ℕ) → search-pieces-lts.Need-sub-least-in-piece-2 (ks t) (search-pieces-at t) search-pieces.Post search-pieces-Inv-loop search-pieces-μ-loop
 search-pieces-sub-least-in-piece-2 t c = search needs
@@ -200,7 +200,7 @@ search-pieces-loop-less-2 : (t : ℕ) → search-pieces-lts.Need-loop-less-2 (ks
 search-pieces-loop-less-2 t c = cutting-falls _ _ _ _ _ _ _ _ _ _ _ _ (c .before .before .before .before .before .before .before .before .before .before .before .before .before .before .before .loop .inv .1) (c .before .before .before .before .before .before .before .before .before .before .before .before .before .before .loop-test .taken) _ _ (c .before .before .before .before .before .before .before .before .before .before .before .keep-above2 .ensures .1) (c .before .before .before .before .before .before .before .before .before .keep-up-to2 .ensures .1) (c .before .before .before .before .before .before .next-field3 .ensures)
 
 search-pieces-loop-again-2 : (t : ℕ) → search-pieces-lts.Need-loop-again-2 (ks t) (search-pieces-at t) search-pieces.Post search-pieces-Inv-loop search-pieces-μ-loop
-search-pieces-loop-again-2 t c = ((search needs, search needs), search cutting-anew)
+search-pieces-loop-again-2 t c = ((search needs, search needs), cutting-anew _ _ _ _ _ _ _ _ _ _ _ _ (c .before .before .before .before .before .before .before .before .before .before .before .before .before .before .before .loop .inv .1) (c .before .before .before .before .before .before .before .before .before .before .before .before .before .before .loop-test .taken) _ _ (c .before .before .before .before .before .before .before .before .before .before .before .keep-above2 .ensures .1) (c .before .before .before .before .before .before .before .before .before .keep-up-to2 .ensures .1) (c .before .before .before .before .before .before .next-field3 .ensures) _ (c .least-in-piece2 .ensures))
 
 search-pieces-returns : (t : ℕ) → search-pieces-lts.Need-returns (ks t) (search-pieces-at t) search-pieces.Post search-pieces-Inv-loop search-pieces-μ-loop
 search-pieces-returns t c =

@@ -1,8 +1,9 @@
 -- The corner fits the widths, so that its casts lose nothing.
-use Rattle.region.proofs.Opening.{local-port-fits, remote-port-fits, protocol-fits, corner-is}
+use Rattle.policy.specs.Sides.{boxOf}
+use Rattle.policy.proofs.Corner.{low-fits}
 use borrow.Author.Needs.{needs}
-use Rattle.region.proofs.corner.low_corner.Statement.{statement}
-use Rattle.region.proofs.corner.low_corner.Tie as tie
+use Rattle.policy.proofs.header.low_corner.Statement.{statement}
+use Rattle.policy.proofs.header.low_corner.Tie as tie
 
 low-requires : tie.Need-low-requires
 low-requires c κs = search needs
@@ -14,22 +15,23 @@ low-requires-3 : tie.Need-low-requires-3
 low-requires-3 c κs = search needs
 
 cast-t5 : tie.Need-cast-t5
-cast-t5 c = search local-port-fits
+cast-t5 c = search low-fits
 
 low-requires-4 : tie.Need-low-requires-4
 low-requires-4 c κs = search needs
 
 cast-t7 : tie.Need-cast-t7
-cast-t7 c = search remote-port-fits
+cast-t7 c = search low-fits
 
 low-requires-5 : tie.Need-low-requires-5
 low-requires-5 c κs = search needs
 
 cast-t9 : tie.Need-cast-t9
-cast-t9 c = search protocol-fits
+cast-t9 c = search low-fits
 
 returns : tie.Need-returns
-returns c = search corner-is
+unfolding boxOf
+returns c = cc
 
 pub low-corner-spec : {M : Type 1} → statement M
 low-corner-spec =

@@ -1,7 +1,7 @@
 -- Each number is the greater low or the lesser high of the two, and the sets are intersected.
 use borrow.Author.Needs.{needs}
-use Rattle.reconcile.proofs.pair.both_entries.Statement.{statement}
-use Rattle.reconcile.proofs.pair.both_entries.Tie as tie
+use Rattle.policy.proofs.pair.both_entries.Statement.{statement}
+use Rattle.policy.proofs.pair.both_entries.Tie as tie
 
 greater-requires : tie.Need-greater-requires
 greater-requires c κs = search needs

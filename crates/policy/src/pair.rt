@@ -1,11 +1,11 @@
 // A pair of entries, intersected.
-use policy::actions::shared_actions;
-use policy::entry::Entry;
-use policy::sides::greater;
-use policy::sides::lesser;
+use crate::actions::shared_actions;
+use crate::entry::Entry;
+use crate::sides::greater;
+use crate::sides::lesser;
 ghost use mathlib.Core.Path.{_≡_};
 ghost use Prim.Native.Nat.{min, max};
-ghost use Rattle.reconcile.specs.Crossproduct.{both};
+ghost use Rattle.policy.specs.Entry.{both};
 
 // The greater and the lesser of two numbers, at the narrower widths of the format.
 fn greater2(a: u16, b: u16) -> u16
@@ -33,7 +33,7 @@ fn lesser1(a: u8, b: u8) -> u8
 }
 
 // Selectors and action sets intersected.
-pub(crate) fn both_entries(d: Entry, e: Entry) -> Entry
+pub fn both_entries(d: Entry, e: Entry) -> Entry
     ensures { λ r. ⌜ r ≡ both d e ⌝ }
 {
     Entry {

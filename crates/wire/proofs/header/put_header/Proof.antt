@@ -1,9 +1,9 @@
 -- The 13 bytes go to the start, or the buffer stays as it is.
 -- Assumes nothing.
-use Rattle.gateway.proofs.Numbers.{header-put, header-kept}
+use Rattle.wire.proofs.PutHeader.{header-put, header-kept}
 use borrow.Author.Needs.{needs}
-use Rattle.gateway.proofs.exports.put_header.Statement.{statement}
-use Rattle.gateway.proofs.exports.put_header.Tie as tie
+use Rattle.wire.proofs.header.put_header.Statement.{statement}
+use Rattle.wire.proofs.header.put_header.Tie as tie
 
 header-bytes-requires : tie.Need-header-bytes-requires
 header-bytes-requires c κs = search needs

@@ -1,0 +1,185 @@
+// Demand 2's round trips and a short list of calls, on two small files. A line has what was answered, and whether the bytes are the file's own.
+use bench::calls::MergeAnswer;
+use bench::round_trips::reread_list;
+use bench::round_trips::rewrite_file;
+use bench::sequence::file_twice_and_merge;
+use libc::STDOUT_FILENO;
+use wire::check::Checked;
+use wire::read::read_list;
+use wire::write::Written;
+use wire::write::write_list;
+
+// ALL {discard, bypass}.
+const EVERYTHING: [u8; 33] = [
+    0,
+    31,
+    1,
+    0,
+    1,
+    0,
+    0,
+    0,
+    0,
+    255,
+    255,
+    255,
+    255,
+    0,
+    0,
+    0,
+    0,
+    255,
+    255,
+    255,
+    255,
+    0,
+    0,
+    255,
+    255,
+    0,
+    0,
+    255,
+    255,
+    0,
+    255,
+    0,
+    3,
+];
+
+// Local port 80 with protocol 6 {bypass}; ALL {discard}.
+const WEB_FIRST: [u8; 61] = [
+    0,
+    59,
+    1,
+    0,
+    2,
+    0,
+    0,
+    0,
+    0,
+    255,
+    255,
+    255,
+    255,
+    0,
+    0,
+    0,
+    0,
+    255,
+    255,
+    255,
+    255,
+    0,
+    80,
+    0,
+    80,
+    0,
+    0,
+    255,
+    255,
+    6,
+    6,
+    0,
+    2,
+    0,
+    0,
+    0,
+    0,
+    255,
+    255,
+    255,
+    255,
+    0,
+    0,
+    0,
+    0,
+    255,
+    255,
+    255,
+    255,
+    0,
+    0,
+    255,
+    255,
+    0,
+    0,
+    255,
+    255,
+    0,
+    255,
+    0,
+    1,
+];
+
+fn print(text: &[u8]) {
+    io::write_all(STDOUT_FILENO, text);
+}
+
+fn print_number(n: usize) {
+    print(b" ");
+    io::print_decimal(STDOUT_FILENO, n as u64);
+}
+
+// Ends a line: whether the bytes are those of the second file.
+fn print_same(bytes: &[u8]) {
+    let file = WEB_FIRST;
+    if check::same(bytes, &file) {
+        print(b" same\n");
+    } else {
+        print(b" other\n");
+    }
+}
+
+fn rewrite() {
+    let file = WEB_FIRST;
+    let mut buffer = [7u8; 64];
+    print(b"rewritten");
+    match rewrite_file(&file, &mut buffer) {
+        Written::Done(n) => print_number(n),
+        Written::Refused(_) => print(b" refused"),
+    }
+    print_same(&buffer[0..61]);
+}
+
+// The list that is read again is written once more, to be seen.
+fn reread() {
+    let file = WEB_FIRST;
+    let mut buffer = [7u8; 64];
+    let first = read_list(&file);
+    let list = first.list;
+    let second = reread_list(list, &mut buffer);
+    let answer = second.answer;
+    print(b"read again");
+    match answer {
+        Checked::Good(n) => print_number(n),
+        Checked::Refused(_) => print(b" refused"),
+    }
+    let mut out = [7u8; 64];
+    let again = second.list;
+    write_list(again, &mut out);
+    print_same(&out[0..61]);
+}
+
+// Party 1's list is withdrawn, so party 2's is merged alone; none of its entries can be struck.
+fn merge() {
+    let first = EVERYTHING;
+    let second = WEB_FIRST;
+    let mut out = [7u8; 64];
+    let m = file_twice_and_merge(&first, &second, &mut out);
+    let answer = m.answer;
+    print(b"merged");
+    match answer {
+        MergeAnswer::Merged { count, length } => {
+            print_number(count);
+            print_number(length);
+        }
+        MergeAnswer::Refused(_) => print(b" refused"),
+    }
+    print_same(&out[0..61]);
+}
+
+fn main() {
+    rewrite();
+    reread();
+    merge();
+}

@@ -1,0 +1,89 @@
+-- What the search and the merging hand back for each answer.
+-- Assumes nothing.
+use Prim.Native.Nat.{ℕ, _+_, _≤_, _<_}
+use mathlib.Core.Path.{_≡_, sym, _∙_, ap, ap₂}
+use mathlib.Core.Bool.{Bool, cond}
+use mathlib.Core.List.{List}
+use lib.Dec.{eqb}
+use lib.ListN.{length, getD}
+use borrow.Author.Tests.{lt-ltb, le-ltb, eq-eqb, ne-eqb}
+use Rattle.policy.specs.declared.header.Header.{Header}
+use Rattle.policy.specs.declared.entry.Entry.{Entry}
+use Rattle.policy.specs.declared.refusal.Refusal.{Refusal}
+use Rattle.policy.specs.Entry.{selector}
+use Rattle.policy.specs.Refusals.{Answer, refusal, numbers}
+use Rattle.policy.specs.Sides.{boxOf}
+use Rattle.policy.proofs.Refusals.{refusal-refuses}
+use Rattle.wire.specs.Format.{recordSize, entryAt, headerPut}
+use Rattle.region.specs.declared.search.Want.{Want}
+use Rattle.region.specs.declared.search.Want.the-variants as want
+use Rattle.region.specs.declared.search.Searched.{Searched}
+use Rattle.region.specs.declared.search.Searched.the-variants as find
+use Rattle.region.specs.Search.{searchOf, searched}
+use Rattle.bench.specs.declared.calls.Bench.{Bench}
+use Rattle.bench.specs.declared.calls.MergeAnswer.{MergeAnswer}
+use Rattle.bench.specs.declared.calls.MergeAnswer.the-variants as merge
+use Rattle.bench.specs.Answers.{mergedAs}
+use Rattle.bench.specs.Calls.{merging, Result, resultOf, answerTo, lentAfter, benchAfter}
+use Rattle.report.specs.Report.{filingsOf}
+use Rattle.measured.specs.steps.Numbers.{mergeNumber, wanted, foundResult, searchResult, measuredSearch}
+
+-- a number and a buffer
+abbrev pub Handed : Type 0
+Handed = ℕ × List ℕ
+
+-- ---- the search
+
+pub wants-uncaught : (w v : ℕ) → w ≡ 0 → want.Uncaught ≡ wanted w v
+wants-uncaught w v e = sym (ap (λ (t : Bool). cond t want.Uncaught (cond (eqb w 1) (want.CaughtBy v) (want.Differs v))) (eq-eqb w 0 e))
+
+pub wants-caught : (w v : ℕ) → (w ≡ 0 → ⊥) → w ≡ 1 → want.CaughtBy v ≡ wanted w v
+wants-caught w v n e = sym (ap₂ (λ (t u : Bool). cond t want.Uncaught (cond u (want.CaughtBy v) (want.Differs v))) (ne-eqb w 0 n) (eq-eqb w 1 e))
+
+pub wants-other : (w v : ℕ) → (w ≡ 0 → ⊥) → (w ≡ 1 → ⊥) → want.Differs v ≡ wanted w v
+wants-other w v n m = sym (ap₂ (λ (t u : Bool). cond t want.Uncaught (cond u (want.CaughtBy v) (want.Differs v))) (ne-eqb w 0 n) (ne-eqb w 1 m))
+
+module _ (file entry buffer : List ℕ) (w v : ℕ) where
+  pub no-record : length entry < recordSize → _≡_ {A = Handed} (512, buffer) (measuredSearch file entry w v buffer)
+  unfolding measuredSearch
+  no-record l = sym (ap (λ (t : Bool). cond t (512, buffer) (searchResult (searchOf file (selector (entryAt entry 0)) (wanted w v)) buffer)) (lt-ltb (length entry) recordSize l))
+
+  module _ (b : List ℕ) (e : Entry) (x : Want) (s : Searched) (long : recordSize ≤ length entry) (read : e ≡ entryAt entry 0) (sides : boxOf b 0 ≡ selector e) (is : x ≡ wanted w v)
+      (says : searched s ≡ searchOf file (boxOf b 0) x) where
+    answers : _≡_ {A = Handed} (searchResult (searched s) buffer) (measuredSearch file entry w v buffer)
+    unfolding measuredSearch
+    answers =
+        ap (λ (a : Answer). searchResult a buffer) (says ∙ ap₂ (searchOf file) (sides ∙ ap selector read) is)
+        ∙ sym (ap (λ (t : Bool). cond t (512, buffer) (searchResult (searchOf file (selector (entryAt entry 0)) (wanted w v)) buffer)) (le-ltb (length entry) recordSize long))
+
+    pub finds-none : s ≡ find.Nothing → _≡_ {A = Handed} (0, buffer) (measuredSearch file entry w v buffer)
+    finds-none q = ap (λ (s : Searched). searchResult (searched s) buffer) (sym q) ∙ answers
+
+    pub finds : (h : Header) (after : List ℕ) → s ≡ find.At h → after ≡ headerPut (numbers h) buffer → _≡_ {A = Handed} (1, after) (measuredSearch file entry w v buffer)
+    finds h after q p = ap (λ (b : List ℕ). (1, b)) p ∙ ap (λ (s : Searched). searchResult (searched s) buffer) (sym q) ∙ answers
+
+    pub refuses : (r : Refusal) (n : ℕ) → s ≡ find.Refused r → n ≡ refusal r .number → _≡_ {A = Handed} (256 + n, buffer) (measuredSearch file entry w v buffer)
+    refuses r n q m =
+        ap (λ (i : ℕ). (256 + i, buffer)) m
+        ∙ sym (ap (λ (t : Bool). cond t (foundResult (refusal r .values) buffer) (256 + refusal r .number, buffer)) (refusal-refuses r))
+        ∙ ap (λ (s : Searched). searchResult (searched s) buffer) (sym q)
+        ∙ answers
+
+-- ---- the merging
+
+module _ (input buffer file : List ℕ) (a : MergeAnswer) (b next : Bench) (filed : b ≡ benchAfter (filingsOf input)) (says : _≡_ {A = Result} (mergedAs a, next, file) (resultOf b (merging buffer))) where
+  abbrev merge-handed : Handed
+  merge-handed = (mergeNumber (answerTo (benchAfter (filingsOf input)) (merging buffer)), lentAfter (benchAfter (filingsOf input)) (merging buffer))
+
+  handed : _≡_ {A = Handed} (mergeNumber (mergedAs a), file) merge-handed
+  handed = ap (λ (x : Result). (mergeNumber (x .0), x .2)) (says ∙ ap (λ (b : Bench). resultOf b (merging buffer)) filed)
+
+  pub merges : (n l : ℕ) → a ≡ merge.Merged n l → _≡_ {A = Handed} (n, file) merge-handed
+  merges n l q = ap (λ (a : MergeAnswer). (mergeNumber (mergedAs a), file)) (sym q) ∙ handed
+
+  pub merging-refused : (r : Refusal) (n : ℕ) → a ≡ merge.Refused r → n ≡ refusal r .number → _≡_ {A = Handed} (256 + n, file) merge-handed
+  merging-refused r n q m =
+      ap (λ (i : ℕ). (256 + i, file)) m
+      ∙ sym (ap (λ (t : Bool). (cond t (getD (refusal r .values) 0 0) (256 + refusal r .number), file)) (refusal-refuses r))
+      ∙ ap (λ (a : MergeAnswer). (mergeNumber (mergedAs a), file)) (sym q)
+      ∙ handed
