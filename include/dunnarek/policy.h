@@ -75,7 +75,7 @@ extern "C" {
  * The number of the entry that catches a header, counted from 0 and so at most 255;
  * POLICY_UNCAUGHT if none does; 256 plus the refusal, POLICY_MISSIZED to POLICY_CROSSED, for a file
  * that is no list. Numbers are in the machine's own byte order.
- * Each call checks the whole file before it looks: about 0.1 microseconds at 32 entries, 0.9 at 256.
+ * Each call checks the whole file before it looks: about 0.06 microseconds at 32 entries, 0.5 at 256.
  */
 uint32_t policy_lookup(const uint8_t *file, size_t file_len,
                        uint32_t local, uint32_t remote,
@@ -89,7 +89,7 @@ uint32_t policy_lookup(const uint8_t *file, size_t file_len,
  * big-endian, is written to the first POLICY_HEADER_SIZE bytes of the buffer if it has as many; a
  * shorter buffer and every other byte keep their values, and so does the whole buffer on every
  * other answer.
- * Lists of 256 entries as gateways have them take about 0.13 milliseconds, the worst that are known 57.
+ * Lists of 256 entries as gateways have them take about 0.2 milliseconds, the worst that are known 57.
  */
 uint32_t policy_compare(const uint8_t *first, size_t first_len,
                         const uint8_t *second, size_t second_len,
