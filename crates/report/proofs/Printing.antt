@@ -3,17 +3,16 @@
 use Prim.Native.Nat.{ℕ, zero, suc, _-_, _≤_}
 use native.Mathlib.Omega.{arith}
 use mathlib.Core.Path.{_≡_, refl, _∙_, ap}
-use mathlib.Core.Bool.{Bool, true, false, cond}
+use mathlib.Core.Bool.{Bool, cond}
 use mathlib.Core.List.{List, [], _∷_, _++_}
-use mathlib.Core.Option.{none, some}
-use lib.ListN.{length, take, drop, set, length-replicate, getD}
+use lib.ListN.{length, drop, length-replicate, getD}
 use borrow.Author.Tests.{le-ltb}
 use Rattle.policy.specs.declared.entry.Entry.{Entry}
 use Rattle.policy.specs.declared.refusal.Refusal.the-variants.{Narrow}
 use Rattle.policy.specs.Header.{headers}
-use Rattle.policy.specs.Refusals.{Answer, refusal, accepted, isAccepted, refuse, firstOf}
+use Rattle.policy.specs.Refusals.{Answer, refusal, accepted, refuse, firstOf}
 use Rattle.policy.proofs.Refusals.{refusal-refuses}
-use Rattle.wire.specs.Format.{Bytes, headSize, listLimit, fileSize, countIn, listIn, recordOf, recordsOf, fileOf}
+use Rattle.wire.specs.Format.{Bytes, headSize, listLimit, fileSize, countIn, recordOf, recordsOf, fileOf}
 use Rattle.wire.specs.Answers.{ifAccepted}
 use Rattle.wire.specs.Writing.{placed}
 use Rattle.wire.proofs.Records.{entries-fit}
@@ -22,11 +21,11 @@ use Rattle.reconcile.specs.Crossproduct.{AllCovering}
 use Rattle.reconcile.specs.Rules.{Merging, refused, merged, mergeOf}
 use Rattle.reconcile.specs.Ending.{endingOf}
 use Rattle.reconcile.proofs.Merging.{merged-few}
-use Rattle.bench.specs.Book.{Book, emptyBook, inForce}
-use Rattle.bench.specs.Answers.{filingOf, mergingOf}
-use Rattle.bench.specs.Calls.{bookFrom, bookAfter}
+use Rattle.bench.specs.Book.{inForce}
+use Rattle.bench.specs.Answers.{mergingOf}
+use Rattle.bench.specs.Calls.{bookAfter, AllBytes}
 use Rattle.bench.specs.Demand3.{MergedList, Demand3}
-use Rattle.bench.proofs.Trace.{all-covering, EachSlot, in-force}
+use Rattle.bench.proofs.Trace.{all-covering, all-in-force-of}
 use Rattle.bench.proofs.Fitting.{reads-back}
 use Rattle.bench.proofs.Demand3.{merged-list-is, demand-3}
 use Rattle.report.specs.Text.{ascii, decimal, hex}
@@ -96,33 +95,19 @@ printed-list input m e = go (inForceAfter input) (all-covering (filingsOf input)
 
 -- ---- demand 3
 
-put : (k : Book) (i : ℕ) (p : List Entry) → AllFit p → EachSlot AllFit k → EachSlot AllFit (set k i (some p))
-put [] i p a e = tt
-put (none ∷ k) zero p a e = (a, e)
-put (some q ∷ k) zero p a e = (a, e .1)
-put (none ∷ k) (suc i) p a e = put k i p a e
-put (some q ∷ k) (suc i) p a e = (e .0, put k i p a (e .1))
-
--- lists that were read from bytes fit their widths
-all-fit : (n : ℕ) (s : List ℕ) (k : Book) → Bytes s → EachSlot AllFit k → EachSlot AllFit (bookFrom k (filingsIn n s))
-all-fit zero s k b e = e
-all-fit (suc n) [] k b e = e
-all-fit (suc n) (p ∷ s) k b e = all-fit n (drop (fileRun s) s) _ (bytes-drop (fileRun s) s bytes) (go (isAccepted (filingOf p file)))
+-- the filings of an input of bytes are of bytes
+all-bytes : (n : ℕ) (s : List ℕ) → Bytes s → AllBytes (filingsIn n s)
+all-bytes zero s b = tt
+all-bytes (suc n) [] b = tt
+all-bytes (suc n) (p ∷ s) b = (bytes-take (fileRun s) s bytes, all-bytes n (drop (fileRun s) s) (bytes-drop (fileRun s) s bytes))
   where
-    file : List ℕ
-    file = take (fileRun s) s
-
     bytes : Bytes s
     bytes i = b (suc i)
-
-    go : (t : Bool) → EachSlot AllFit (cond t (set k (p - 1) (some (listIn file))) k)
-    go true = put k (p - 1) (listIn file) (entries-fit file headSize (countIn file) (bytes-take (fileRun s) s bytes)) e
-    go false = e
 
 -- the answer and the buffer that are printed
 pub printed-keeps : (input : List ℕ) → Bytes input
     → Demand3 (inForceAfter input) mergeBuffer (mergingOf (bookAfter (filingsOf input)) mergeBuffer .0) (mergingOf (bookAfter (filingsOf input)) mergeBuffer .1)
-unfolding filingsOf bookAfter
+unfolding filingsOf
 printed-keeps input b =
     demand-3 mergeBuffer (inForceAfter input) (all-covering (filingsOf input))
-    (reads-back (inForceAfter input) (in-force AllFit (bookAfter (filingsOf input)) (all-fit (length input) input emptyBook b tt)))
+    (reads-back (inForceAfter input) (all-in-force-of AllFit (λ p s c f. entries-fit s headSize (countIn s) c) (filingsOf input) (all-bytes (length input) input b)))
