@@ -3,8 +3,8 @@
 use crate::entry::{file, header_bytes, Box5, Entry, Header, List};
 use crate::merge::{merge, Form, Merged};
 use crate::model::Want;
-use crate::search::{are_proper, caught_by, decode, differing, gap, lookup_packed, unrefined};
-use crate::search::{Decoded, Lists, Packed};
+use crate::search::{are_proper, common_part, decode, differing, gap, lookup_packed};
+use crate::search::{missed_by_first, unrefined, Decoded, Lists, Packed, LAST};
 
 /// The records of a file that passes checks 1 to 4, else the refusal's number.
 pub fn records(file: &[u8], limit: usize) -> Result<&[u8], u32> {
@@ -145,9 +145,16 @@ pub fn filed(input: &[u8]) -> Vec<List> {
 
 /// The least header of a box that a list treats in a wanted way.
 pub fn search(lists: &impl Lists, within: &Box5, want: Want, boxes: &mut u64) -> Option<Header> {
+    let n = lists.count(0);
     match want {
-        Want::Uncaught => lists.least_open((0, 0..lists.count(0)), (0, 0..0), within, None, boxes),
-        Want::CaughtBy(i) => caught_by(lists, i, within, None, boxes),
+        Want::Uncaught => missed_by_first(lists, n, within, LAST, boxes),
+        Want::CaughtBy(i) if i < n => {
+            missed_by_first(lists, i, &common_part(within, &lists.selector(0, i)), 0, boxes)
+        }
+        Want::CaughtBy(_) => None,
+        Want::Differing(set) if (0..n).all(|i| lists.actions(0, i) == set) => {
+            missed_by_first(lists, n, within, LAST, boxes)
+        }
         Want::Differing(set) => differing(lists, within, set, boxes),
     }
 }

@@ -2,8 +2,8 @@
 
 use crate::entry::{file, Entry, Header, List, ALL, RECORD};
 use crate::generate::{
-    any_list, box_near, cross_one, crowd, damaged, header_near, realistic_list, related_list,
-    small_list, some_file, some_list, some_party, some_sets, Filings, Sets,
+    any_list, box_near, cross_one, crowd, damaged, header_near, long_list, realistic_list,
+    related_list, small_list, some_file, some_list, some_party, some_sets, Filings, Sets,
 };
 use crate::model::{catching, Bench, LIST_LIMIT, LONGEST_FILE};
 use crate::random::Random;
@@ -297,7 +297,7 @@ fn comparison_in_c(random: &mut Random) -> Call {
 }
 
 fn searching(random: &mut Random) -> Call {
-    let list = some_list(random);
+    let list = if random.one_in(6) { long_list(random) } else { some_list(random) };
     let entry = random.below(list.len() as u64) as usize;
     let number = match random.below(8) {
         0 => *random.pick(&[0, 1, 255, 256, 0xffff]),

@@ -418,6 +418,23 @@ pub fn some_list(random: &mut Random) -> List {
     }
 }
 
+/// A list of more than 32 entries over a small space: a short one, and behind it a few of its
+/// entries over and over. So what the last ones leave is often caught by others, or by none.
+pub fn long_list(random: &mut Random) -> List {
+    let mut list = small_list(random.between(2, 16) as usize, Sets::Any, random);
+    if random.one_in(2) {
+        list.pop();
+    }
+    if random.one_in(3) {
+        let actions = list[0].actions;
+        list.iter_mut().for_each(|e| e.actions = actions);
+    }
+    let few = [0; 3].map(|_| *random.pick(&list));
+    let n = random.between(33, 80) as usize;
+    list.resize_with(n, || *random.pick(&few));
+    list
+}
+
 /// A list that often refines the given one, or is refined by it.
 pub fn related_list(list: &[Entry], random: &mut Random) -> List {
     let mut other = list.to_vec();

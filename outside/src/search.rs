@@ -4,6 +4,7 @@
 //! records that meet it.
 
 use crate::entry::{Box5, Entry, Header, List, ALL, FIELDS, RECORD};
+use crate::model::holds as contains;
 use std::ops::Range;
 
 /// How much more a record counts in the pick for each field in which it reaches the box's end: such
@@ -18,6 +19,9 @@ pub trait Lists {
     fn count(&self, list: usize) -> usize;
     fn selector(&self, list: usize, i: usize) -> Box5;
     fn actions(&self, list: usize, i: usize) -> u16;
+
+    /// Whether one of the first `n` entries of the first list matches `h`.
+    fn matches(&self, n: usize, h: &Header) -> bool;
 
     /// The lesser of `best` and the least header of `x` that no entry of the parts `a` and `b`
     /// matches. `boxes` counts the boxes visited.
@@ -298,6 +302,10 @@ impl Lists for Packed<'_> {
         actions(self.record(list, i))
     }
 
+    fn matches(&self, n: usize, h: &Header) -> bool {
+        self.part((0, 0..n)).iter().any(|r| holds_all(r, h))
+    }
+
     fn least_open(
         &self,
         a: Part,
@@ -431,6 +439,10 @@ impl Lists for Decoded<'_> {
         self.lists[list][i].actions
     }
 
+    fn matches(&self, n: usize, h: &Header) -> bool {
+        self.lists[0][..n].iter().any(|e| contains(&e.selector, h))
+    }
+
     fn least_open(
         &self,
         a: Part,
@@ -463,6 +475,27 @@ impl Lists for Decoded<'_> {
 // ---------------------------------------------------------------- what is asked of lists
 
 const NONE: Part = (0, 0..0);
+
+/// As many entries at a list's end are searched by themselves first, where it has more.
+pub const LAST: usize = 32;
+
+/// The least header of `x` that none of the first `n` entries of the first list matches. If the last
+/// few of them leave nothing, or a header that no entry matches, the others need no search.
+pub fn missed_by_first(
+    lists: &impl Lists,
+    n: usize,
+    x: &Box5,
+    last: usize,
+    boxes: &mut u64,
+) -> Option<Header> {
+    if n > LAST {
+        match lists.least_open((0, n - last..n), NONE, x, None, boxes) {
+            Some(h) if lists.matches(n, &h) => {}
+            settled => return settled,
+        }
+    }
+    lists.least_open((0, 0..n), NONE, x, None, boxes)
+}
 
 /// The least header that the first list leaves uncaught.
 pub fn gap(lists: &impl Lists, boxes: &mut u64) -> Option<Header> {

@@ -33,7 +33,7 @@ fn record_matches(s: &[u8], at: usize, h: Header) -> bool
 }
 
 // The first of n records, from a place on, that matches h.
-pub(crate) fn first_match(s: &[u8], from: usize, n: usize, h: Header) -> Caught
+pub fn first_match(s: &[u8], from: usize, n: usize, h: Header) -> Caught
     requires { ⌜ from + recordSize * n ≤ length (now s) ⌝ }
     ensures { λ r. ⌜ r ≡ catcher (entriesFrom (now (s .entry)) from n) h ⌝ }
 {

@@ -9,6 +9,8 @@ pub mod Union
 pub mod Steps
 pub mod Uses
 pub mod Judging
+pub mod LastEntries
+pub mod OneSet
 pub mod Searching
 pub mod Model
 pub mod ListChecks

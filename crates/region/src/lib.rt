@@ -2,9 +2,11 @@
 pub mod corner;
 pub mod covering;
 pub mod cut;
+pub mod differing;
 pub mod gap;
 pub mod headers;
 pub mod least;
+pub mod missed;
 pub mod pick;
 pub mod rank;
 pub mod row;

@@ -4,7 +4,7 @@ use outside::baseline;
 use outside::cells;
 use outside::daemon_cases::{comparisons, lookups};
 use outside::entry::{file, header_bytes, records, Entry, Header, List, ALL};
-use outside::generate::{any_list, box_near, program_input, Sets};
+use outside::generate::{any_list, box_near, long_list, program_input, Sets};
 use outside::merge::{merge, Form, Merged};
 use outside::model::{self, Refusal, Want};
 use outside::random::Random;
@@ -13,12 +13,15 @@ use outside::search::{decode, Decoded, Packed};
 
 fn searches(cases: &mut Cases, wanted: usize, random: &mut Random) {
     for _ in 0..wanted {
-        let list = any_list(20, Sets::OneOf(6, 12), random);
+        let list = match random.below(4) {
+            0 => long_list(random),
+            _ => any_list(20, Sets::OneOf(6, 12), random),
+        };
         let within = box_near(&list, random);
         let want = match random.below(3) {
             0 => Want::Uncaught,
             1 => Want::CaughtBy(random.below(list.len() as u64 + 1) as usize),
-            _ => Want::Differing(*random.pick(&[6, 12, 1])),
+            _ => Want::Differing(*random.pick(&[6, 12, list[0].actions])),
         };
         let expected = model::search(&file(&list), &within, want).unwrap();
         let bytes = records(&list);

@@ -1,7 +1,10 @@
 -- What a list allows a header (Definition 4), judged by the action sets that are wanted.
 use Prim.Native.Nat.{ℕ}
 use mathlib.Core.Bool.{Bool, not}
+use mathlib.Core.Path.{_≡_}
+use mathlib.Core.List.{List, [], _∷_}
 use lib.Dec.{eqb}
+use Rattle.policy.specs.declared.entry.Entry.{Entry}
 use Rattle.policy.specs.Actions.{subset}
 use Rattle.policy.specs.Policy.{Allowed, actions, uncaught}
 use Rattle.region.specs.declared.treated.Sets.{Sets}
@@ -17,3 +20,8 @@ wanted (Lacking s) a = not (subset s a)
 abbrev pub judged : Sets → Bool → Allowed → Bool
 judged q d (actions a) = wanted q a
 judged q d uncaught = d
+
+-- every entry has the action set s
+abbrev pub OneSet : ℕ → List Entry → Type 0
+OneSet s [] = Unit {0}
+OneSet s (e ∷ p) = (e .actions ≡ s) × OneSet s p
