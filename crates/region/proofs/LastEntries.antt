@@ -1,4 +1,4 @@
--- What the last entries of a list miss, and what that shows of the whole list. Over any set of headers.
+-- What the last entries of a list miss, and what that shows of the whole list.
 -- Assumes nothing.
 use Prim.Native.Nat.{ℕ, _+_, _*_, _-_, _≤_, _<_}
 use native.Mathlib.Omega.{arith}
@@ -23,7 +23,7 @@ use Rattle.wire.specs.Format.{headSize, recordSize, filedLimit, entriesFrom}
 use Rattle.wire.proofs.Entries.{entries-split}
 use Rattle.region.specs.ListChecks.{gapOf}
 
--- ---- a list and its last entries
+-- ---- a list and its last entries, over any set of headers
 
 module _ (hs : Headers) (x : Box) (front back : List Entry) where
   -- what the whole list misses, its last entries miss

@@ -45,13 +45,15 @@ fn count_row(s: &[u32], at: usize, x: &[u32; SIDES], cut: &[u32; SIDES], ranks: 
     }
 }
 
-// Counts those of every row of s.
+// Counts those of every row of s. The counts are kept apart from what is lent, so that they stay in registers.
 fn count_rows(s: &[u32], x: &[u32; SIDES], cut: &[u32; SIDES], ranks: &mut [u32; FIELDS]) {
+    let mut counts = *ranks;
     let mut i = s.len() / ROW;
     while 0 < i {
         i -= 1;
-        count_row(s, ROW * i, x, cut, ranks);
+        count_row(s, ROW * i, x, cut, &mut counts);
     }
+    *ranks = counts;
 }
 
 // Whether cut ends before x in two fields or more.

@@ -8,10 +8,10 @@ use Rattle.region.proofs.rank.count_rows.Statement.{statement}
 use Rattle.region.proofs.rank.count_rows.Tie as tie
 
 abbrev Inv-loop : tie.InvT-loop
-Inv-loop s x cut ranks₀ i₀ ranks i = i ≤ length s / rowSize
+Inv-loop s x cut ranks counts₀ i₀ counts i = i ≤ length s / rowSize
 
 abbrev μ-loop : tie.MeasureT-loop
-μ-loop s x cut ranks₀ i₀ ranks i = i
+μ-loop s x cut ranks counts₀ i₀ counts i = i
 
 loop-holds : tie.Need-loop-holds Inv-loop μ-loop
 loop-holds c = omega arith
