@@ -1,6 +1,6 @@
 //! The daemon's calls and the program's merging in Rust, by the product's algorithm, for measuring.
 
-use crate::entry::{file, header_bytes, Box5, Entry, Header, List};
+use crate::entry::{file, header_bytes, is_header, Box5, Entry, Header, List};
 use crate::merge::{merge, Form, Merged};
 use crate::model::Want;
 use crate::search::{are_proper, common_part, decode, differing, gap, lookup_packed};
@@ -28,7 +28,8 @@ pub fn records(file: &[u8], limit: usize) -> Result<&[u8], u32> {
 #[inline(never)]
 pub fn lookup(file: &[u8], h: &Header) -> u32 {
     match records(file, 256) {
-        Ok(records) => lookup_packed(records, h).unwrap_or(256) as u32,
+        Ok(records) if is_header(h) => lookup_packed(records, h).unwrap_or(256) as u32,
+        Ok(_) => 256,
         Err(refusal) => 256 + refusal,
     }
 }
@@ -110,6 +111,9 @@ pub fn lookup_unpacked(table: &[Unpacked], h: &Header) -> u32 {
         (range[0].into() <= x) & (x <= range[1].into())
     }
     let h = *h;
+    if !is_header(&h) {
+        return 256;
+    }
     for (i, e) in table.iter().enumerate() {
         if (within(e.addresses[0], h[0]) & within(e.addresses[1], h[1]))
             && within(e.ports[0], h[2])

@@ -1,9 +1,12 @@
 //! Another method for the same jobs, for measuring: coordinate compression. Each field is cut at all
 //! ends of ranges, each cell notes which entries hold it, as bits, and the cells are walked in the
-//! order of headers, remembering the sets of entries that were walked from before.
+//! order of headers, remembering the sets of entries that were walked from before. Ports and protocols
+//! are cut also where headers are told from other combinations.
 
 use crate::entry::{Box5, Entry, Header, List, FIELDS, TOP};
+use crate::entry::{LOCAL_PORT, PROTOCOL, REMOTE_PORT, WITH_PORTS};
 use crate::merge::Merged;
+use crate::model::header_cuts;
 use crate::search::common_part;
 use std::collections::{BTreeSet, HashSet};
 
@@ -42,6 +45,9 @@ fn cut_after(bits: &mut Bits, from: usize, to: usize, i: usize) {
     bits[at + 1..to].fill(0);
 }
 
+/// The entries that match in all fields so far, and whether a port other than 0 was chosen.
+type Walked = (Bits, bool);
+
 /// Two lists with their fields cut into cells.
 pub struct Cells {
     starts: [Vec<u32>; FIELDS],
@@ -77,6 +83,7 @@ impl Cells {
         }
         for f in 0..FIELDS {
             let mut starts = BTreeSet::from([within.low[f]]);
+            starts.extend(header_cuts(f));
             for (_, e) in numbered() {
                 starts.insert(e.selector.low[f]);
                 if e.selector.high[f] < TOP[f] {
@@ -110,16 +117,17 @@ impl Cells {
         &self,
         visit: &mut dyn FnMut(&Header, Option<usize>, Option<usize>) -> bool,
     ) -> Result<(), TooMany> {
-        let mut seen: [HashSet<Bits>; FIELDS] = Default::default();
-        self.walk_from(0, self.everything, &mut [0; FIELDS], &mut seen, visit).map(|_| ())
+        let mut seen: [HashSet<Walked>; FIELDS] = Default::default();
+        let start = (self.everything, false);
+        self.walk_from(0, start, &mut [0; FIELDS], &mut seen, visit).map(|_| ())
     }
 
     fn walk_from(
         &self,
         f: usize,
-        mut alive: Bits,
+        (mut alive, has_port): Walked,
         header: &mut Header,
-        seen: &mut [HashSet<Bits>; FIELDS],
+        seen: &mut [HashSet<Walked>; FIELDS],
         visit: &mut dyn FnMut(&Header, Option<usize>, Option<usize>) -> bool,
     ) -> Result<bool, TooMany> {
         if f == FIELDS {
@@ -131,7 +139,7 @@ impl Cells {
                 cut_after(&mut alive, from, to, i);
             }
         }
-        if !seen[f].insert(alive) {
+        if !seen[f].insert((alive, has_port)) {
             return Ok(false);
         }
         if seen[f].len() > self.limit {
@@ -139,8 +147,12 @@ impl Cells {
         }
         let mut before = None;
         for (start, holding) in self.starts[f].iter().zip(&self.holding[f]) {
-            let next = and(&alive, holding);
-            // Neighbouring cells that the entries left do not tell apart.
+            let is_port = f == LOCAL_PORT || f == REMOTE_PORT;
+            if f == PROTOCOL && has_port && !WITH_PORTS.contains(start) {
+                continue;
+            }
+            let next = (and(&alive, holding), has_port || (is_port && *start > 0));
+            // Neighbouring cells that nothing left tells apart.
             if before == Some(next) {
                 continue;
             }

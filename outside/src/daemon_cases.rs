@@ -1,6 +1,6 @@
 //! The daemon's two calls on generated files, valid and damaged, short and long, against the model.
 
-use crate::entry::Header;
+use crate::entry::{is_header, Header};
 use crate::generate::{header_near, related_list, some_file, some_list};
 use crate::model;
 use crate::random::Random;
@@ -16,7 +16,7 @@ pub fn lookups(
     random: &mut Random,
     lookup: &dyn Fn(&[u8], &Header) -> u32,
 ) {
-    let mut answers = [0usize; 3];
+    let (mut answers, mut no_headers) = ([0usize; 3], 0);
     let end = cases.count + wanted;
     while cases.count < end {
         let list = some_list(random);
@@ -24,12 +24,16 @@ pub fn lookups(
         for _ in 0..4 {
             let header = header_near(&list, random);
             let expected = model::lookup_number(&bytes, &header);
+            no_headers += (expected == 256 && !is_header(&header)) as usize;
             answers[(expected.clamp(255, 257) - 255) as usize] += 1;
             let case = || format!("lookup of {header:?} in {}", hexadecimal(&bytes));
             cases.same(lookup(&bytes, &header), expected, case);
         }
     }
-    println!("  lookups: {} caught, {} uncaught, {} refused", answers[0], answers[1], answers[2]);
+    println!(
+        "  lookups: {} caught, {} uncaught ({no_headers} of no header), {} refused",
+        answers[0], answers[1], answers[2]
+    );
 }
 
 /// Comparisons against the model's, with canary bytes around the lent buffer.

@@ -5,6 +5,7 @@ use crate::baseline::filed;
 use crate::entry::{file, Box5, Entry, ALL, FIELDS, TOP};
 use crate::generate::{family, Closing, Shape, CLOSINGS, SHAPES};
 use crate::random::Random;
+use crate::search::trimmed;
 use crate::stack::Painted;
 
 const LIMIT: usize = 256;
@@ -44,7 +45,7 @@ fn volume(b: &Box5) -> u128 {
 }
 
 /// A box in three parts: a row at its low corner, what lies above the row in field `f`, and what lies
-/// above it in another field and not in `f`, which is the smaller one.
+/// above it in another field and not in `f`, which is the smaller one, trimmed as the search does it.
 struct Cut {
     f: usize,
     row: Box5,
@@ -88,7 +89,9 @@ fn cuts(x: &Box5, leaving: Leaving) -> Vec<Cut> {
             (row.high[f], row.high[g]) = (end_f, end_g);
             larger.low[f] = end_f + 1;
             (smaller.high[f], smaller.low[g]) = (end_f, end_g + 1);
-            cuts.push(Cut { f, row, larger, smaller });
+            if let Some(smaller) = trimmed(&smaller) {
+                cuts.push(Cut { f, row, larger, smaller });
+            }
         }
     }
     cuts

@@ -3,6 +3,9 @@
 //! remote port, protocol.
 
 pub const FIELDS: usize = 5;
+pub const LOCAL_PORT: usize = 2;
+pub const REMOTE_PORT: usize = 3;
+pub const PROTOCOL: usize = 4;
 
 /// The greatest number of each field.
 pub const TOP: [u32; FIELDS] = [u32::MAX, u32::MAX, 0xffff, 0xffff, 0xff];
@@ -15,8 +18,21 @@ pub const HEADER: usize = 13;
 pub const BOX: usize = 2 * HEADER;
 pub const RECORD: usize = BOX + 2;
 
-/// Compared as arrays are: the first number that differs decides.
+/// A combination of numbers, whether it is a header or not. Compared as arrays are: the first number
+/// that differs decides.
 pub type Header = [u32; FIELDS];
+
+/// The protocols that have ports, rising.
+pub const WITH_PORTS: [u32; 5] = [6, 17, 33, 132, 136];
+
+/// The greatest header: its protocol is the last that has ports.
+pub const LAST_HEADER: Header = [TOP[0], TOP[1], TOP[2], TOP[3], WITH_PORTS[WITH_PORTS.len() - 1]];
+
+/// Whether a combination of numbers is a header: its protocol has ports, or both its ports are 0.
+#[inline(always)]
+pub fn is_header(h: &Header) -> bool {
+    WITH_PORTS.contains(&h[PROTOCOL]) || (h[LOCAL_PORT] == 0 && h[REMOTE_PORT] == 0)
+}
 
 #[derive(Clone, Copy, PartialEq, Eq, Debug, Hash)]
 pub struct Box5 {

@@ -1,6 +1,8 @@
 //! One generator of inputs, from fixed seeds, for the tests and the measurements alike.
 
-use crate::entry::{file, Box5, Entry, Header, List, ALL, FIELDS, TOP, WIDTH};
+use crate::entry::{file, is_header, Box5, Entry, Header, List, ALL, FIELDS, TOP, WIDTH};
+use crate::entry::{LAST_HEADER, LOCAL_PORT, PROTOCOL, REMOTE_PORT, WITH_PORTS};
+use crate::points;
 use crate::random::Random;
 
 // ---------------------------------------------------------------- families of lists
@@ -22,9 +24,9 @@ pub enum Shape {
     Staircase,
     /// Boxes from the low corner to points of one plane across all five fields.
     Plane,
-    /// The same from the high corner.
+    /// The same from the high corner, of protocols up to the last that has ports.
     HighPlane,
-    /// Overlapping boxes along the diagonal.
+    /// Overlapping boxes along the diagonal, their protocols from 0 on.
     Diagonal,
     /// A partition of all headers by random cuts, each part grown by a tenth.
     Partition,
@@ -44,6 +46,8 @@ pub enum Closing {
     Orthants,
     /// Everything but the last header.
     Hole,
+    /// All headers and few other combinations: both ports 0, and each protocol with ports.
+    Headers,
     /// A partition of all headers by random cuts, as many parts as the list has other entries.
     /// No large record hides the rest, so this is the hardest closing.
     Parts,
@@ -67,14 +71,29 @@ pub const SHAPES: [Shape; 15] = [
     Shape::Exact,
 ];
 
-pub const CLOSINGS: [Closing; 6] = [
+pub const CLOSINGS: [Closing; 7] = [
     Closing::Bare,
     Closing::All,
     Closing::Halves,
     Closing::Orthants,
     Closing::Hole,
+    Closing::Headers,
     Closing::Parts,
 ];
+
+/// ALL but for one field's range.
+pub fn only(f: usize, low: u32, high: u32) -> Box5 {
+    let mut b = ALL;
+    (b.low[f], b.high[f]) = (low, high);
+    b
+}
+
+/// Both ports 0: every header of a protocol without ports.
+fn no_ports() -> Box5 {
+    let mut b = only(LOCAL_PORT, 0, 0);
+    b.high[REMOTE_PORT] = 0;
+    b
+}
 
 /// `part` of `whole` parts of field `f`'s numbers, from below.
 fn share(f: usize, part: u64, whole: u64) -> u32 {
@@ -148,7 +167,26 @@ fn plane_point(random: &mut Random) -> Header {
     }
 }
 
+/// Whether a box of a shape gets its ports from 0 on. Else hardly one would match a protocol without
+/// ports.
+fn starts_at_port_0(shape: Shape, i: usize, n: usize, random: &mut Random) -> bool {
+    match shape {
+        // The outer half, so that they stay inside each other.
+        Shape::Nested => 2 * i > n,
+        Shape::Random | Shape::Scattered | Shape::HighPlane | Shape::Diagonal => random.one_in(3),
+        _ => false,
+    }
+}
+
 fn body_box(shape: Shape, i: usize, n: usize, random: &mut Random) -> Box5 {
+    let mut b = shape_box(shape, i, n, random);
+    if starts_at_port_0(shape, i, n, random) {
+        (b.low[LOCAL_PORT], b.low[REMOTE_PORT]) = (0, 0);
+    }
+    b
+}
+
+fn shape_box(shape: Shape, i: usize, n: usize, random: &mut Random) -> Box5 {
     let mut b = ALL;
     let (here, whole) = (i as u64 + 1, n as u64 + 1);
     match shape {
@@ -176,12 +214,18 @@ fn body_box(shape: Shape, i: usize, n: usize, random: &mut Random) -> Box5 {
             b.high[1] = share(1, whole - here, whole);
         }
         Shape::Plane => b.high = plane_point(random),
-        Shape::HighPlane => b.low = plane_point(random),
+        Shape::HighPlane => {
+            // A box past the last protocol with ports would match no header.
+            b.low = plane_point(random);
+            b.low[PROTOCOL] = b.low[PROTOCOL] * LAST_HEADER[PROTOCOL] / TOP[PROTOCOL];
+        }
         Shape::Diagonal => {
             for f in 0..FIELDS {
                 b.low[f] = share(f, here - 1, whole);
                 b.high[f] = share(f, (here + 1).min(whole), whole);
             }
+            // Most thin ranges of protocols have none with ports.
+            b.low[PROTOCOL] = 0;
         }
         Shape::Realistic => return realistic_box(random),
         Shape::Partition | Shape::Exact => unreachable!("made whole"),
@@ -231,13 +275,34 @@ fn ports(random: &mut Random) -> (u32, u32) {
     }
 }
 
-/// A selector as a gateway's administrator writes it.
+/// Some of the protocols with ports, some without, and all.
+const PROTOCOLS: [(u32, u32); 13] = [
+    (6, 6),
+    (6, 6),
+    (6, 6),
+    (6, 6),
+    (17, 17),
+    (17, 17),
+    (132, 132),
+    (1, 1),
+    (47, 47),
+    (50, 51),
+    (0, 255),
+    (0, 255),
+    (0, 255),
+];
+
+/// A selector as a gateway's administrator writes it. Some name ports for all protocols, few for one
+/// that has none.
 fn realistic_box(random: &mut Random) -> Box5 {
     let (local, remote) = (addresses(&SITES, random), addresses(&PEERS, random));
-    let protocols =
-        *random.pick(&[(6, 6), (6, 6), (6, 6), (17, 17), (17, 17), (1, 1), (50, 50), (0, 255)]);
+    let protocols = *random.pick(&PROTOCOLS);
     let (mut local_port, mut remote_port) = ((0, 65535), (0, 65535));
-    if protocols == (6, 6) || protocols == (17, 17) {
+    let names_ports = match protocols {
+        (0, 255) => random.one_in(2),
+        (p, _) => WITH_PORTS.contains(&p) || random.one_in(8),
+    };
+    if names_ports {
         local_port = ports(random);
         remote_port = ports(random);
     }
@@ -276,13 +341,11 @@ fn closing_boxes(closing: Closing, n: usize, random: &mut Random) -> Vec<Box5> {
                 b
             })
             .collect(),
-        Closing::Hole => (0..FIELDS)
-            .map(|f| {
-                let mut b = ALL;
-                b.high[f] = TOP[f] - 1;
-                b
-            })
-            .collect(),
+        Closing::Hole => (0..FIELDS).map(|f| only(f, 0, LAST_HEADER[f] - 1)).collect(),
+        Closing::Headers => {
+            let with_ports = WITH_PORTS.map(|p| only(PROTOCOL, p, p));
+            [no_ports()].into_iter().chain(with_ports).collect()
+        }
         Closing::Parts => partition(n / 2, random),
     }
 }
@@ -343,30 +406,59 @@ pub fn some_sets(random: &mut Random) -> Sets {
 
 // ---------------------------------------------------------------- lists for the tests
 
+/// The ranges of protocols between those with ports.
+fn without_ports() -> Vec<(u32, u32)> {
+    let lows = [0].into_iter().chain(WITH_PORTS.map(|p| p + 1));
+    let highs = WITH_PORTS.map(|p| p - 1).into_iter().chain([TOP[PROTOCOL]]);
+    lows.zip(highs).collect()
+}
+
+/// Changes a box so that it holds no header: protocols without ports, and one port is not 0.
+fn leave_headers(b: &mut Box5, protocols: (u32, u32), random: &mut Random) {
+    (b.low[PROTOCOL], b.high[PROTOCOL]) = protocols;
+    let f = *random.pick(&[LOCAL_PORT, REMOTE_PORT]);
+    b.low[f] = b.low[f].max(1);
+    b.high[f] = b.high[f].max(1);
+}
+
+/// An entry that matches no header. What it allows must not matter.
+fn headerless_entry(mut selector: Box5, random: &mut Random) -> Entry {
+    let protocols = *random.pick(&without_ports());
+    leave_headers(&mut selector, protocols, random);
+    Entry { selector, actions: action_set(Sets::Any, random) }
+}
+
 fn small_range(f: usize, random: &mut Random) -> (u32, u32) {
     if random.one_in(2) {
         return (0, TOP[f]);
     }
-    let (x, y) = (random.between(0, 3), random.between(0, 3));
-    let (low, high) = (x.min(y), x.max(y));
-    (low, if high == 3 { TOP[f] } else { high })
+    let (i, j) = (random.below(4) as usize, random.below(4) as usize);
+    (points::STARTS[f][i.min(j)], points::end(f, i.max(j)))
 }
 
-/// A list over a space so small that it can be walked point by point (see points.rs), sometimes
-/// with a gap.
+fn small_entry(sets: Sets, random: &mut Random) -> Entry {
+    let mut selector = ALL;
+    for f in 0..FIELDS {
+        (selector.low[f], selector.high[f]) = small_range(f, random);
+    }
+    if random.one_in(10) {
+        leave_headers(&mut selector, (0, WITH_PORTS[0] - 1), random);
+        return Entry { selector, actions: action_set(Sets::Any, random) };
+    }
+    Entry { selector, actions: action_set(sets, random) }
+}
+
+/// A list over a space so small that it can be walked point by point (see points.rs): mostly closed by
+/// ALL, or by two entries that match all headers and not all combinations; sometimes with a gap.
 pub fn small_list(n: usize, sets: Sets, random: &mut Random) -> List {
-    let mut boxes = vec![];
-    for _ in 0..n {
-        let mut b = ALL;
-        for f in 0..FIELDS {
-            (b.low[f], b.high[f]) = small_range(f, random);
-        }
-        boxes.push(b);
-    }
-    if !random.one_in(12) {
-        boxes[n - 1] = ALL;
-    }
-    with_sets(boxes, sets, random)
+    let closing = match random.below(12) {
+        0 => vec![],
+        1..=3 if n > 1 => vec![no_ports(), only(PROTOCOL, WITH_PORTS[0], TOP[PROTOCOL])],
+        _ => vec![ALL],
+    };
+    let mut list: List = (closing.len()..n).map(|_| small_entry(sets, random)).collect();
+    list.extend(with_sets(closing, sets, random));
+    list
 }
 
 /// A list of `n` entries of a shape of the families, mostly covering.
@@ -377,6 +469,7 @@ pub fn shaped_list(n: usize, sets: Sets, random: &mut Random) -> List {
         1 if n > 8 => Closing::Hole,
         2 if n > 2 => Closing::Halves,
         3 if n > 4 => Closing::Parts,
+        4 | 5 if n > 8 => Closing::Headers,
         _ => Closing::All,
     };
     let last = closing_boxes(closing, n, random);
@@ -393,6 +486,21 @@ pub fn realistic_list(n: usize, sets: Sets, random: &mut Random) -> List {
     let mut boxes = body(Shape::Realistic, n, random);
     boxes[n - 1] = ALL;
     with_sets(boxes, sets, random)
+}
+
+/// Such lists clash at no header: one has a port for a single action and the next a protocol without
+/// ports for another, and all else has both.
+pub fn clashing_list(n: usize, random: &mut Random) -> List {
+    let mut list = realistic_list(n - 1, Sets::With(7), random);
+    let first = if random.one_in(2) {
+        let (f, port) = (*random.pick(&[LOCAL_PORT, REMOTE_PORT]), *random.pick(&SERVICES));
+        Entry { selector: only(f, port, port), actions: 1 }
+    } else {
+        let (low, high) = *random.pick(&without_ports());
+        Entry { selector: only(PROTOCOL, low, high), actions: 2 }
+    };
+    list.insert(random.below(2) as usize, first);
+    list
 }
 
 /// A list of 1 to `most` entries of any kind.
@@ -441,7 +549,7 @@ pub fn related_list(list: &[Entry], random: &mut Random) -> List {
     for _ in 0..random.below(4) {
         let i = random.below(other.len() as u64) as usize;
         let j = random.below(other.len() as u64) as usize;
-        match random.below(8) {
+        match random.below(10) {
             0 | 1 => other[i].actions |= 1 << random.below(16),
             2 => other[i].actions &= !(1 << random.below(16)),
             3 => other.swap(i, j),
@@ -456,6 +564,10 @@ pub fn related_list(list: &[Entry], random: &mut Random) -> List {
                 let f = random.below(FIELDS as u64) as usize;
                 other[i].selector.low[f] = 0;
                 other[i].selector.high[f] = TOP[f];
+            }
+            7 | 8 if other.len() < 256 => {
+                let entry = headerless_entry(other[j].selector, random);
+                other.insert(i, entry);
             }
             _ => {
                 let f = random.below(FIELDS as u64) as usize;
@@ -583,8 +695,21 @@ pub fn some_file(list: &[Entry], random: &mut Random) -> Vec<u8> {
     }
 }
 
-/// A header at or beside the ends of a list's ranges.
+/// A header at or beside the ends of a list's ranges; now and then a combination that is none.
 pub fn header_near(list: &[Entry], random: &mut Random) -> Header {
+    let mut header = numbers_near(list, random);
+    if !is_header(&header) && !random.one_in(5) {
+        if random.one_in(2) {
+            (header[LOCAL_PORT], header[REMOTE_PORT]) = (0, 0);
+        } else {
+            header[PROTOCOL] = *random.pick(&WITH_PORTS);
+        }
+    }
+    header
+}
+
+/// Numbers at or beside the ends of a list's ranges.
+fn numbers_near(list: &[Entry], random: &mut Random) -> Header {
     let mut header = [0; FIELDS];
     for f in 0..FIELDS {
         let mut near = 0;
@@ -604,9 +729,10 @@ pub fn header_near(list: &[Entry], random: &mut Random) -> Header {
     header
 }
 
-/// A box with its ends at or beside those of a list's ranges, sometimes crossed.
+/// A box with its ends at or beside those of a list's ranges, sometimes crossed, sometimes without a
+/// header.
 pub fn box_near(list: &[Entry], random: &mut Random) -> Box5 {
-    let (x, y) = (header_near(list, random), header_near(list, random));
+    let (x, y) = (numbers_near(list, random), numbers_near(list, random));
     let mut b = Box5 { low: x, high: y };
     if !random.one_in(20) {
         for f in 0..FIELDS {
@@ -614,21 +740,28 @@ pub fn box_near(list: &[Entry], random: &mut Random) -> Box5 {
             b.high[f] = x[f].max(y[f]);
         }
     }
+    match random.below(8) {
+        0 => {
+            let protocols = *random.pick(&without_ports());
+            leave_headers(&mut b, protocols, random);
+        }
+        1..=3 => (b.low[LOCAL_PORT], b.low[REMOTE_PORT]) = (0, 0),
+        _ => {}
+    }
     b
 }
 
 // ---------------------------------------------------------------- filings, inputs of the program
 
-/// Single ports then ALL, as in 01's example of 256 and 272 entries.
+/// Single ports then ALL, as in 01's example of 256 and 272 entries; or single numbers of another field.
+/// Of protocols, those with ports come first.
 pub fn single_ports(f: usize, n: usize) -> List {
-    let mut list: List = (0..n as u32)
-        .map(|i| {
-            let mut selector = ALL;
-            selector.low[f] = 100 + i;
-            selector.high[f] = 100 + i;
-            Entry { selector, actions: 0x8000 }
-        })
-        .collect();
+    let number = |i: usize| match WITH_PORTS.get(i) {
+        Some(protocol) if f == PROTOCOL => *protocol,
+        _ => 100 + i as u32,
+    };
+    let single = |i| Entry { selector: only(f, number(i), number(i)), actions: 0x8000 };
+    let mut list: List = (0..n).map(single).collect();
     list.push(Entry { selector: ALL, actions: 0x8001 });
     list
 }
@@ -656,15 +789,18 @@ pub fn filings_at_limit(more: u32) -> Vec<u8> {
 }
 
 /// Fields and numbers of single values in them: the working lists have 256 entries, or a few more.
-const CROWDS: [&[(usize, usize)]; 8] = [
+/// The last two have 256 only because protocols without ports have no pairs with single ports.
+pub const CROWDS: [&[(usize, usize)]; 10] = [
     &[(2, 15), (3, 15)],
     &[(2, 16), (3, 15)],
-    &[(4, 31), (3, 7)],
+    &[(4, 31), (1, 7)],
     &[(0, 7), (1, 7), (4, 3)],
     &[(0, 8), (1, 7), (4, 3)],
     &[(0, 3), (1, 3), (2, 3), (3, 3)],
     &[(0, 3), (1, 3), (2, 3), (3, 3), (4, 1)],
-    &[(0, 1), (1, 1), (2, 1), (3, 1), (4, 15)],
+    &[(0, 3), (1, 1), (2, 3), (4, 17)],
+    &[(0, 3), (1, 1), (2, 1), (3, 1), (4, 16)],
+    &[(1, 1), (3, 21), (4, 22)],
 ];
 
 /// Lists whose working list has about 256 entries; most agree, some are in conflict.
@@ -755,6 +891,7 @@ impl Filings {
             1..=5 => realistic_list(random.between(1, self.most) as usize, self.sets, random),
             6..=9 => small_list(random.between(1, self.most) as usize, self.sets, random),
             10..=12 => shaped_list(random.between(1, self.most) as usize, self.sets, random),
+            13 => clashing_list(random.between(2, self.most) as usize, random),
             _ => any_list(self.most as usize, self.sets, random),
         }
     }

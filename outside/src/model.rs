@@ -1,8 +1,9 @@
-//! Document 01 once more, written from its text for clarity, as the other side of the tests.
-//! It shares no algorithm with the product: what the product finds by cutting boxes is found here
-//! by walking the cells between all ends of ranges, field by field, in the order of headers.
+//! Document 01 once more, with Wish 1 of 02, written from their text for clarity, as the other side of
+//! the tests. It shares no algorithm with the product: what the product finds by cutting boxes is
+//! found here by walking the cells between all ends of ranges, field by field, in the order of headers.
 
-use crate::entry::{Box5, Entry, Header, List, ALL, BOX, FIELDS, RECORD, TOP, WIDTH};
+use crate::entry::{is_header, Box5, Entry, Header, List, ALL, BOX, FIELDS, RECORD, TOP, WIDTH};
+use crate::entry::{LOCAL_PORT, PROTOCOL, REMOTE_PORT, WITH_PORTS};
 use std::collections::{BTreeSet, HashSet};
 
 // ---------------------------------------------------------------- what is turned down
@@ -47,7 +48,7 @@ pub const LONGEST_FILE: usize = 5 + 28 * LIST_LIMIT;
 
 // ---------------------------------------------------------------- headers, entries, lists
 
-/// Whether a header is in a box; a crossed box holds none.
+/// Whether numbers are in a box; a crossed box holds none.
 pub fn holds(b: &Box5, h: &Header) -> bool {
     (0..FIELDS).all(|f| b.low[f] <= h[f] && h[f] <= b.high[f])
 }
@@ -56,8 +57,11 @@ pub fn is_crossed(b: &Box5) -> bool {
     (0..FIELDS).any(|f| b.low[f] > b.high[f])
 }
 
-/// The number of the first entry that matches (Definition 3).
+/// The number of the first entry that matches (Definition 3). What is no header is uncaught.
 pub fn catching(list: &[Entry], h: &Header) -> Option<usize> {
+    if !is_header(h) {
+        return None;
+    }
     list.iter().position(|e| holds(&e.selector, h))
 }
 
@@ -70,8 +74,8 @@ pub fn allowed(list: &[Entry], h: &Header) -> Option<u16> {
 
 /// Calls `visit` with headers of a box in rising order, and the numbers of the entries that catch
 /// them in each list, until it answers true. Headers that no list tells apart from an earlier
-/// header are left out. So every combination of catching entries that occurs in the box is
-/// visited, first at its least header.
+/// header are left out. So every combination of catching entries that occurs at a header of the box
+/// is visited, first at its least header.
 pub fn walk(
     within: &Box5,
     lists: &[&[Entry]],
@@ -88,21 +92,26 @@ pub fn walk(
 /// Entries of each list that match in all fields so far.
 type Alive = Vec<Vec<usize>>;
 
+/// All that what is still to be walked depends on: the entries, and whether a port was chosen that
+/// only protocols with ports have.
+type Walked = (Alive, bool);
+
 fn walk_field(
     within: &Box5,
     lists: &[&[Entry]],
     f: usize,
     alive: Alive,
     header: &mut Header,
-    seen: &mut Vec<HashSet<Alive>>,
+    seen: &mut Vec<HashSet<Walked>>,
     visit: &mut dyn FnMut(&Header, &[Option<usize>]) -> bool,
 ) -> bool {
     if f == FIELDS {
         let catching: Vec<Option<usize>> = alive.iter().map(|list| list.first().copied()).collect();
-        return visit(header, &catching);
+        return is_header(header) && visit(header, &catching);
     }
     let alive = without_hidden(within, lists, f, alive);
-    if !seen[f].insert(alive.clone()) {
+    let has_port = [LOCAL_PORT, REMOTE_PORT].iter().any(|g| *g < f && header[*g] > 0);
+    if !seen[f].insert((alive.clone(), has_port)) {
         return false;
     }
     for start in cell_starts(within, lists, f, &alive) {
@@ -140,9 +149,20 @@ fn without_hidden(within: &Box5, lists: &[&[Entry]], f: usize, mut alive: Alive)
     alive
 }
 
+/// Where a field is cut because of what a header is: a port is 0 or not, and a protocol has ports or
+/// not.
+pub fn header_cuts(f: usize) -> Vec<u32> {
+    match f {
+        LOCAL_PORT | REMOTE_PORT => vec![1],
+        PROTOCOL => WITH_PORTS.iter().flat_map(|p| [*p, p + 1]).collect(),
+        _ => vec![],
+    }
+}
+
 /// The least numbers of the cells of field `f`: the ends of all ranges cut the box's range there.
 fn cell_starts(within: &Box5, lists: &[&[Entry]], f: usize, alive: &Alive) -> BTreeSet<u32> {
     let mut starts = BTreeSet::from([within.low[f]]);
+    starts.extend(header_cuts(f));
     for (list, numbers) in lists.iter().zip(alive) {
         for &i in numbers {
             let s = &list[i].selector;
@@ -170,6 +190,11 @@ fn least(
         found.is_some()
     });
     found
+}
+
+/// The least header of a box.
+pub fn least_header(within: &Box5) -> Option<Header> {
+    least(within, &[], |_| true)
 }
 
 // ---------------------------------------------------------------- the file
@@ -308,7 +333,7 @@ pub fn search(file: &[u8], within: &Box5, want: Want) -> Result<Option<Header>, 
     }))
 }
 
-/// The number of the entry that catches the header.
+/// The number of the entry that catches the header. The file's checks come first.
 pub fn lookup(file: &[u8], h: &Header) -> Result<Option<usize>, Refusal> {
     Ok(catching(&read(file, LIST_LIMIT)?, h))
 }

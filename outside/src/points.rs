@@ -1,35 +1,57 @@
 //! Rules 1 to 4 of Merging taken word by word, by walking a small header space point by point.
-//! A small list's ranges start at 0, 1, 2 or 3 and end at 0, 1, 2 or the top, so the numbers 0
-//! to 3 of each field tell all headers apart that such lists can tell apart.
+//! A small list's ranges are made of four parts of each field. So one number of each part tells all
+//! headers apart that such lists can tell apart; of protocols, one with ports and one without.
 
-use crate::entry::{Entry, Header, List, FIELDS, TOP};
+use crate::entry::{is_header, Box5, Entry, Header, List, FIELDS, TOP};
 use crate::model::{allowed, catching, is_crossed, Refusal};
 
-/// Numbers that stand for a field's whole range.
-pub const POINTS: u32 = 4;
+/// Where the parts of each field start. The first protocols have no ports, 6 has, and the last two
+/// parts have protocols of both kinds.
+pub const STARTS: [[u32; 4]; FIELDS] =
+    [[0, 1, 2, 3], [0, 1, 2, 3], [0, 1, 2, 3], [0, 1, 2, 3], [0, 6, 7, 132]];
+
+/// The least number of each part; of protocols, the least of each kind.
+const NUMBERS: [&[u32]; FIELDS] =
+    [&[0, 1, 2, 3], &[0, 1, 2, 3], &[0, 1, 2, 3], &[0, 1, 2, 3], &[0, 6, 7, 17, 132, 133]];
+
+/// The last number of a part.
+pub fn end(f: usize, part: usize) -> u32 {
+    STARTS[f].get(part + 1).map_or(TOP[f], |next| next - 1)
+}
+
+fn part_of(f: usize, x: u32) -> usize {
+    STARTS[f].iter().rposition(|start| *start <= x).expect("the first part starts at 0")
+}
+
+/// The box with the whole of each part in which a range starts or ends.
+pub fn small_box(b: &Box5) -> Box5 {
+    Box5 {
+        low: std::array::from_fn(|f| STARTS[f][part_of(f, b.low[f])]),
+        high: std::array::from_fn(|f| end(f, part_of(f, b.high[f]))),
+    }
+}
 
 pub fn is_small(list: &[Entry]) -> bool {
-    list.iter().all(|e| {
-        (0..FIELDS).all(|f| {
-            let (low, high) = (e.selector.low[f], e.selector.high[f]);
-            low < POINTS && (high < POINTS - 1 || high == TOP[f])
-        })
-    })
+    list.iter().all(|e| e.selector == small_box(&e.selector))
+}
+
+/// All combinations of the small space, rising.
+pub fn combinations() -> Vec<Header> {
+    let mut all = vec![[0; FIELDS]];
+    for f in 0..FIELDS {
+        let with = |h: Header, x: u32| {
+            let mut longer = h;
+            longer[f] = x;
+            longer
+        };
+        all = all.iter().flat_map(|h| NUMBERS[f].iter().map(move |x| with(*h, *x))).collect();
+    }
+    all
 }
 
 /// All headers of the small space, rising.
 pub fn points() -> Vec<Header> {
-    let mut all = vec![];
-    for i in 0..POINTS.pow(FIELDS as u32) {
-        let mut header = [0; FIELDS];
-        let mut rest = i;
-        for f in (0..FIELDS).rev() {
-            header[f] = rest % POINTS;
-            rest /= POINTS;
-        }
-        all.push(header);
-    }
-    all
+    combinations().into_iter().filter(is_header).collect()
 }
 
 pub fn least_uncaught(list: &[Entry], points: &[Header]) -> Option<Header> {

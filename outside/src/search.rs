@@ -1,9 +1,10 @@
 //! The product's search in Rust, for measuring: the least header of a box that no record holds, by
-//! cutting at the low corner. `Packed` works on the file's bytes as the product does; `Decoded` is
-//! the fastest version we know of, over decoded selectors, which keeps for each box only the
-//! records that meet it.
+//! cutting at the low corner. Each box is trimmed first, so that its low corner is a header. `Packed`
+//! works on the file's bytes as the product does; `Decoded` is the fastest version we know of, over
+//! decoded selectors, which keeps for each box only the records that meet it.
 
 use crate::entry::{Box5, Entry, Header, List, ALL, FIELDS, RECORD};
+use crate::entry::{LOCAL_PORT, PROTOCOL, REMOTE_PORT, WITH_PORTS};
 use crate::model::holds as contains;
 use std::ops::Range;
 
@@ -46,6 +47,33 @@ pub fn common_part(a: &Box5, b: &Box5) -> Box5 {
         r.high[f] = a.high[f].min(b.high[f]);
     }
     r
+}
+
+/// The least protocol with ports from `p` on.
+fn next_with_ports(p: u32) -> Option<u32> {
+    WITH_PORTS.into_iter().find(|q| p <= *q)
+}
+
+/// The greatest protocol with ports up to `p`.
+fn last_with_ports(p: u32) -> Option<u32> {
+    WITH_PORTS.into_iter().rfind(|q| *q <= p)
+}
+
+/// A proper box with the same headers, whose low corner is one of them; none if there is no header.
+pub fn trimmed(x: &Box5) -> Option<Box5> {
+    let mut r = *x;
+    let has_port = x.low[LOCAL_PORT] > 0 || x.low[REMOTE_PORT] > 0;
+    let end = x.high[PROTOCOL];
+    match next_with_ports(x.low[PROTOCOL]).filter(|first| *first <= end) {
+        Some(first) if has_port => {
+            r.low[PROTOCOL] = first;
+            r.high[PROTOCOL] = last_with_ports(end)?;
+        }
+        Some(_) => {}
+        None if has_port => return None,
+        None => (r.high[LOCAL_PORT], r.high[REMOTE_PORT]) = (0, 0),
+    }
+    Some(r)
 }
 
 /// The fields in which a record ends inside the box, those first whose cut the fewest records cross.
@@ -259,6 +287,9 @@ fn least_packed(
     boxes: &mut u64,
 ) -> Option<Header> {
     *boxes += 1;
+    let Some(x) = &trimmed(x) else {
+        return best;
+    };
     if best.is_some_and(|h| h <= x.low) {
         return best;
     }
@@ -406,6 +437,7 @@ fn least_in_pieces(
         piece.low[f] = end[f] + 1;
         rest.high[f] = end[f];
         *boxes += 1;
+        let Some(piece) = trimmed(&piece) else { continue };
         if found.is_some_and(|h| h <= piece.low) {
             continue;
         }
@@ -451,7 +483,11 @@ impl Lists for Decoded<'_> {
         best: Option<Header>,
         boxes: &mut u64,
     ) -> Option<Header> {
-        if !is_proper(x) || best.is_some_and(|h| h <= x.low) {
+        if !is_proper(x) {
+            return best;
+        }
+        let Some(x) = &trimmed(x) else { return best };
+        if best.is_some_and(|h| h <= x.low) {
             return best;
         }
         *boxes += 1;

@@ -27,7 +27,8 @@ use Rattle.policy.proofs.Least.{agree, lesser-assoc, lesser-comm, lesser-last}
 use Rattle.region.specs.declared.treated.Sets.{Sets}
 use Rattle.region.specs.declared.treated.Sets.the-variants.{Lacking}
 use Rattle.region.specs.steps.Treated.{judged}
-use Rattle.region.proofs.Union.{in-everything, least-everywhere}
+use Rattle.policy.proofs.HeaderSet.{in-everything}
+use Rattle.region.proofs.Everywhere.{least-everywhere}
 use Rattle.region.proofs.Uses.{exceeds-step, exceeds-end}
 use Rattle.region.proofs.Judging.{firsts-in}
 use Rattle.compare.specs.Comparison.{excessOf}

@@ -14,7 +14,8 @@ use Rattle.policy.specs.Header.{header, everything, headers}
 use Rattle.policy.specs.Least.{least}
 use Rattle.policy.specs.Actions.{discard, bypass}
 use Rattle.policy.specs.Entry.{entry, crossed}
-use Rattle.policy.specs.Policy.{catcher, missed}
+use Rattle.policy.specs.Policy.{missed}
+use Rattle.lookup.specs.Lookup.{headerCatcher}
 use Rattle.region.proofs.Model.{gap-is}
 use Rattle.reconcile.specs.Rules.{refused, merged, mergeOf}
 use Rattle.reconcile.proofs.Model.{mergeBy-is}
@@ -52,30 +53,36 @@ protocols n s = selecting anyAddress anyPort n s
 -- ---- first match
 
 -- P1. List ALL {discard, bypass}: 0,0,0,0,0 is caught by entry 0.
-pub p1 : catcher (all (discard + bypass) ∷ []) (at 0 0 0 0 0) ≡ By 0
+pub p1 : headerCatcher (all (discard + bypass) ∷ []) (at 0 0 0 0 0) ≡ By 0
+unfolding headers
 p1 = refl
 
 -- P2. Local port 80, protocol 6 {bypass}; ALL {discard}: port 80 with 6 gives entry 0, ports 79 and 81 entry 1.
 abbrev webFirst : List Entry
 webFirst = selecting anyAddress (range 80 80) (range 6 6) bypass ∷ all discard ∷ []
 
-pub p2-80 : catcher webFirst (at 0 0 80 0 6) ≡ By 0
+pub p2-80 : headerCatcher webFirst (at 0 0 80 0 6) ≡ By 0
+unfolding headers
 p2-80 = refl
 
-pub p2-79 : catcher webFirst (at 0 0 79 0 6) ≡ By 1
+pub p2-79 : headerCatcher webFirst (at 0 0 79 0 6) ≡ By 1
+unfolding headers
 p2-79 = refl
 
-pub p2-81 : catcher webFirst (at 0 0 81 0 6) ≡ By 1
+pub p2-81 : headerCatcher webFirst (at 0 0 81 0 6) ≡ By 1
+unfolding headers
 p2-81 = refl
 
 -- ---- gap; whatever the action sets are
 
 -- P3. Only protocols 0 to 254: gap, 0,0,0,0,255.
 pub p3 : (a : ℕ) → least headers (missed (protocols (range 0 254) a ∷ [])) ≡ At (at 0 0 0 0 255)
+unfolding headers
 p3 a = gap-is headers (protocols (range 0 254) a ∷ [])
 
 -- P4. Local addresses 0 to 2147483647, then 2147483648 to 4294967295: no gap.
 pub p4 : (a b : ℕ) → least headers (missed (fromLocal (range 0 2147483647) a ∷ fromLocal (range 2147483648 4294967295) b ∷ [])) ≡ Nothing
+unfolding headers
 p4 a b = gap-is headers (fromLocal (range 0 2147483647) a ∷ fromLocal (range 2147483648 4294967295) b ∷ [])
 
 -- ---- crossed
@@ -91,6 +98,7 @@ p5-good a = refl
 
 -- P6. ALL {bypass} against ALL {discard}: conflict at 0,0,0,0,0.
 pub p6 : mergeOf headers ((all bypass ∷ []) ∷ (all discard ∷ []) ∷ []) ≡ refused (Conflict (at 0 0 0 0 0))
+unfolding headers
 p6 = mergeBy-is headers ((all bypass ∷ []) ∷ (all discard ∷ []) ∷ [])
 
 -- policies A and B of 004's appendix: ESP transport is bit 2, the net is 10.1.*.*, and A3 allows x
@@ -113,6 +121,7 @@ policyB = selecting anyAddress (range 80 80) (range 6 6) (bypass + espTransport)
 
 -- P7. Policies A (party 1) and B (party 2): conflict at 0,0,0,0,1.
 pub p7 : mergeOf headers (policyA bypass ∷ policyB ∷ []) ≡ refused (Conflict (at 0 0 0 0 1))
+unfolding headers
 p7 = mergeBy-is headers (policyA bypass ∷ policyB ∷ [])
 
 -- P8. The same with A3 allowing bypass and discard: three entries, C11, C21, C42.
@@ -124,19 +133,24 @@ policyD =
     ∷ []
 
 pub p8 : mergeOf headers (policyA (discard + bypass) ∷ policyB ∷ []) ≡ merged policyD
+unfolding headers
 p8 = mergeBy-is headers (policyA (discard + bypass) ∷ policyB ∷ [])
 
 -- P9. ALL {discard}, ALL {bypass}, alone: merges to one entry, {discard}.
 pub p9 : mergeOf headers ((all discard ∷ all bypass ∷ []) ∷ []) ≡ merged (all discard ∷ [])
+unfolding headers
 p9 = mergeBy-is headers ((all discard ∷ all bypass ∷ []) ∷ [])
 
 -- P10. Protocol 1 {} before ALL {discard}: conflict at 0,0,0,0,1. After it: merges to one entry.
 pub p10-before : mergeOf headers ((protocols (range 1 1) 0 ∷ all discard ∷ []) ∷ []) ≡ refused (Conflict (at 0 0 0 0 1))
+unfolding headers
 p10-before = mergeBy-is headers ((protocols (range 1 1) 0 ∷ all discard ∷ []) ∷ [])
 
 pub p10-after : mergeOf headers ((all discard ∷ protocols (range 1 1) 0 ∷ []) ∷ []) ≡ merged (all discard ∷ [])
+unfolding headers
 p10-after = mergeBy-is headers ((all discard ∷ protocols (range 1 1) 0 ∷ []) ∷ [])
 
 -- P11. Local ports 0 to 99 {discard}, ALL {discard}: merges to the second alone.
 pub p11 : mergeOf headers ((selecting anyAddress (range 0 99) anyProtocol discard ∷ all discard ∷ []) ∷ []) ≡ merged (all discard ∷ [])
+unfolding headers
 p11 = mergeBy-is headers ((selecting anyAddress (range 0 99) anyProtocol discard ∷ all discard ∷ []) ∷ [])

@@ -4,7 +4,7 @@ use Prim.Native.Nat.{ℕ, suc, _+_, _*_, _-_, _<_, _≤_}
 use native.Mathlib.Nat.{add-comm, zero-add}
 use native.Mathlib.Omega.{arith}
 use mathlib.Core.Path.{_≡_, refl, sym, ap, _∙_}
-use mathlib.Core.Bool.{Bool, cond}
+use mathlib.Core.Bool.{Bool, true, false, cond}
 use mathlib.Core.List.{List, [], _∷_}
 use mathlib.Core.Option.{Option, none, some}
 use lib.ListN.{length, getD, take, drop, length-append}
@@ -17,6 +17,7 @@ use Rattle.policy.specs.declared.entry.Caught.the-variants.{By}
 use Rattle.policy.specs.declared.entry.Caught.the-variants as catch
 use Rattle.policy.specs.declared.refusal.Refusal.{Refusal}
 use Rattle.policy.specs.declared.refusal.Refusal.the-variants.{Missized, Version, Count, Crossed}
+use Rattle.policy.specs.Header.{among, headers}
 use Rattle.policy.specs.Policy.{catcher}
 use Rattle.policy.specs.Refusals.{Answer, refusal, accepted, isAccepted, refuse}
 use Rattle.policy.proofs.Refusals.{Pass, Refuse, refuse-refuses, refusal-refuses, refused-stays, accepted-passes, passes}
@@ -29,7 +30,7 @@ use Rattle.wire.proofs.Checked.{accepted-tells, good-tells, refused-tells}
 use Rattle.wire.proofs.Entries.{same-entry, length-entries, entries-at}
 use Rattle.lookup.specs.declared.file.Looked.{Looked}
 use Rattle.lookup.specs.declared.file.Looked.the-variants.{Entry as Found, Uncaught, Refused as Turned}
-use Rattle.lookup.specs.Lookup.{caughtValues, looked, lookupOf, Part, recordPart, noPart, partFor, lentPart}
+use Rattle.lookup.specs.Lookup.{caughtValues, headerCatcher, looked, lookupOf, Part, recordPart, noPart, partFor, lentPart}
 
 -- an entry that catches a header has its number below the list's length
 pub caught-below : (p : List Entry) (h : Header) (i : ℕ) → catcher p h ≡ By i → i < length p
@@ -41,6 +42,14 @@ caught-below p h i e =
     below : (n f b j i : ℕ) → n ≡ f + suc b → f ≡ j → i ≡ 0 + j → i < n
     below n f b j i w p e = omega arith
 
+-- an entry that catches a combination of numbers is the catcher of Definition 3
+header-caught : (p : List Entry) (h : Header) (i : ℕ) → headerCatcher p h ≡ By i → catcher p h ≡ By i
+header-caught p h i e = go (among headers h) e
+  where
+    go : (b : Bool) → cond b (catcher p h) catch.Uncaught ≡ By i → catcher p h ≡ By i
+    go true e = e
+    go false e = absurd (let z : _≡_ {A = ℕ} 0 1 = cc in omega arith)
+
 -- ---- from the checks and first match to the answer
 
 pub good-room : (s : List ℕ) (c : Checked) (n : ℕ) → checked c ≡ checksOf s listLimit → c ≡ Good n → headSize + recordSize * n ≤ length s
@@ -48,14 +57,14 @@ good-room s c n e g = let z = good-tells s listLimit c n e g .size in omega arit
 
 module _ (s : List ℕ) (h : Header) (c : Checked) (e : checked c ≡ checksOf s listLimit) where
   pub refused-answer : (x : Refusal) → c ≡ Refused x → refusal x ≡ lookupOf s h
-  refused-answer x g = refused-tells s listLimit c x e g [] (accepted (caughtValues (catcher (listIn s) h)))
+  refused-answer x g = refused-tells s listLimit c x e g [] (accepted (caughtValues (headerCatcher (listIn s) h)))
 
-  module _ (n : ℕ) (g : c ≡ Good n) (k : Caught) (found : k ≡ catcher (entriesFrom s headSize n) h) where
+  module _ (n : ℕ) (g : c ≡ Good n) (k : Caught) (found : k ≡ headerCatcher (entriesFrom s headSize n) h) where
     good-answer : accepted (caughtValues k) ≡ lookupOf s h
     good-answer =
         let t = good-tells s listLimit c n e g in
-        ap (λ (x : Caught). accepted (caughtValues x)) (found ∙ ap (λ (m : ℕ). catcher (entriesFrom s headSize m) h) (sym (t .count-is)))
-        ∙ sym (t .passes [] (accepted (caughtValues (catcher (listIn s) h))))
+        ap (λ (x : Caught). accepted (caughtValues x)) (found ∙ ap (λ (m : ℕ). headerCatcher (entriesFrom s headSize m) h) (sym (t .count-is)))
+        ∙ sym (t .passes [] (accepted (caughtValues (headerCatcher (listIn s) h))))
 
     pub caught-answer : (i : ℕ) → k ≡ By i → accepted (i ∷ []) ≡ lookupOf s h
     caught-answer i q = ap (λ (x : Caught). accepted (caughtValues x)) (sym q) ∙ good-answer
@@ -81,28 +90,28 @@ module _ (s : List ℕ) (h : Header) (l : Looked) (e : looked l ≡ lookupOf s h
   -- an accepted answer: the file is good, and the values are those of Definition 3
   module _ (vs : List ℕ) (a : looked l ≡ accepted vs) where
     pass : Pass (fileChecks s listLimit)
-    pass = accepted-passes (fileChecks s listLimit) (accepted (caughtValues (catcher (listIn s) h))) (file-refuses s listLimit) (ap isAccepted (sym e ∙ a))
+    pass = accepted-passes (fileChecks s listLimit) (accepted (caughtValues (headerCatcher (listIn s) h))) (file-refuses s listLimit) (ap isAccepted (sym e ∙ a))
 
     good : checksOf s listLimit ≡ accepted (countIn s ∷ [])
     good = passes (fileChecks s listLimit) (accepted (countIn s ∷ [])) pass
 
-    values-are : vs ≡ caughtValues (catcher (listIn s) h)
-    values-are = ap (λ (x : Answer). x .values) (sym a ∙ e ∙ passes (fileChecks s listLimit) (accepted (caughtValues (catcher (listIn s) h))) pass)
+    values-are : vs ≡ caughtValues (headerCatcher (listIn s) h)
+    values-are = ap (λ (x : Answer). x .values) (sym a ∙ e ∙ passes (fileChecks s listLimit) (accepted (caughtValues (headerCatcher (listIn s) h))) pass)
 
-    part-is : partFor s h ≡ recordPart (catcher (listIn s) h)
-    part-is = ap (λ (x : Answer). cond (isAccepted x) (recordPart (catcher (listIn s) h)) noPart) good
+    part-is : partFor s h ≡ recordPart (headerCatcher (listIn s) h)
+    part-is = ap (λ (x : Answer). cond (isAccepted x) (recordPart (headerCatcher (listIn s) h)) noPart) good
 
-  catcher-is : (i : ℕ) → l ≡ Found i → catcher (listIn s) h ≡ By i
-  catcher-is i q = go (catcher (listIn s) h) refl (values-are (i ∷ []) (ap looked q))
+  catcher-is : (i : ℕ) → l ≡ Found i → headerCatcher (listIn s) h ≡ By i
+  catcher-is i q = go (headerCatcher (listIn s) h) refl (values-are (i ∷ []) (ap looked q))
     where
-      go : (k : Caught) → catcher (listIn s) h ≡ k → i ∷ [] ≡ caughtValues k → k ≡ By i
+      go : (k : Caught) → headerCatcher (listIn s) h ≡ k → i ∷ [] ≡ caughtValues k → k ≡ By i
       go (By j) u v = cc
       go catch.Uncaught u v = absurd (let z : _≡_ {A = ℕ} 0 1 = cc in omega arith)
 
   -- the record of the entry that was found lies in the file, and is the part
   pub record-fits : (i : ℕ) → l ≡ Found i → headSize + recordSize * i + recordSize ≤ length s
   record-fits i q =
-      let f = caught-below (listIn s) h i (catcher-is i q) in
+      let f = caught-below (listIn s) h i (header-caught (listIn s) h i (catcher-is i q)) in
       let n = length-entries s headSize (countIn s) in
       let z = accepted-tells s listLimit (countIn s) (sym (good (i ∷ []) (ap looked q))) .size in
       omega arith
@@ -110,7 +119,7 @@ module _ (s : List ℕ) (h : Header) (l : Looked) (e : looked l ≡ lookupOf s h
   -- its number is one of a list of up to 256
   pub entry-small : (i : ℕ) → l ≡ Found i → i < listLimit
   entry-small i q =
-      let f = caught-below (listIn s) h i (catcher-is i q) in
+      let f = caught-below (listIn s) h i (header-caught (listIn s) h i (catcher-is i q)) in
       let n = length-entries s headSize (countIn s) in
       let z = accepted-tells s listLimit (countIn s) (sym (good (i ∷ []) (ap looked q))) .most-is in
       omega arith
@@ -120,7 +129,7 @@ module _ (s : List ℕ) (h : Header) (l : Looked) (e : looked l ≡ lookupOf s h
 
   -- where nothing catches, or the file is refused, there is no part
   pub uncaught-part : l ≡ Uncaught → noPart ≡ partFor s h
-  uncaught-part q = sym (part-is [] (ap looked q) ∙ go (catcher (listIn s) h) (values-are [] (ap looked q)))
+  uncaught-part q = sym (part-is [] (ap looked q) ∙ go (headerCatcher (listIn s) h) (values-are [] (ap looked q)))
     where
       go : (k : Caught) → [] ≡ caughtValues k → recordPart k ≡ noPart
       go (By j) v = absurd (let z : _≡_ {A = ℕ} 0 1 = cc in omega arith)
@@ -128,8 +137,8 @@ module _ (s : List ℕ) (h : Header) (l : Looked) (e : looked l ≡ lookupOf s h
 
   pub refused-part : (x : Refusal) → l ≡ Turned x → noPart ≡ partFor s h
   refused-part x q =
-      let r = refused-stays (fileChecks s listLimit) (caughtValues (catcher (listIn s) h)) x (accepted (countIn s ∷ [])) (ap looked (sym q) ∙ e) in
-      sym (ap (λ (b : Bool). cond b (recordPart (catcher (listIn s) h)) noPart) (ap isAccepted (sym r) ∙ refusal-refuses x))
+      let r = refused-stays (fileChecks s listLimit) (caughtValues (headerCatcher (listIn s) h)) x (accepted (countIn s ∷ [])) (ap looked (sym q) ∙ e) in
+      sym (ap (λ (b : Bool). cond b (recordPart (headerCatcher (listIn s) h)) noPart) (ap isAccepted (sym r) ∙ refusal-refuses x))
 
 -- ---- the part that the code takes, `&file[a..e]`
 

@@ -9,6 +9,7 @@ use Rattle.policy.specs.declared.entry.Entry as entry
 use Rattle.policy.specs.declared.entry.Caught.{Caught}
 use Rattle.policy.specs.declared.entry.Caught.the-variants.{By}
 use Rattle.policy.specs.declared.entry.Caught.the-variants as catch
+use Rattle.policy.specs.Header.{among, headers}
 use Rattle.policy.specs.Policy.{catcher}
 use Rattle.policy.specs.Refusals.{Answer, refusal, accepted, isAccepted, firstOf}
 use Rattle.wire.specs.Format.{headSize, recordSize, listLimit, listIn}
@@ -27,9 +28,13 @@ looked (Entry i) = accepted (i ∷ [])
 looked Uncaught = accepted []
 looked (Refused r) = refusal r
 
+-- Definition 3 for any combination of numbers: nothing catches one that is no header (02, Wish 1)
+abbrev pub headerCatcher : List entry.Entry → Header → Caught
+headerCatcher p h = cond (among headers h) (catcher p h) catch.Uncaught
+
 -- lookup: checks 1 to 4 of a file of up to 256 entries, then Definition 3 over the list that the file holds
 abbrev pub lookupOf : List ℕ → Header → Answer
-lookupOf s h = firstOf (fileChecks s listLimit) (accepted (caughtValues (catcher (listIn s) h)))
+lookupOf s h = firstOf (fileChecks s listLimit) (accepted (caughtValues (headerCatcher (listIn s) h)))
 
 -- the answer of a lookup in a table in 01's terms: the entry's number, and nothing for "uncaught"
 abbrev pub caughtAnswer : Caught → Answer
@@ -37,7 +42,7 @@ caughtAnswer c = accepted (caughtValues c)
 
 -- lookup in a table: Definition 3 over its entries
 abbrev pub tableLookupOf : List entry.Entry → Header → Answer
-tableLookupOf p h = caughtAnswer (catcher p h)
+tableLookupOf p h = caughtAnswer (headerCatcher p h)
 
 -- a part of a slice: where it starts, and how many bytes it has
 pub record Part : Type 0 where
@@ -55,7 +60,7 @@ recordPart catch.Uncaught = noPart
 
 -- the part that lookup hands back, also where the file is refused
 abbrev pub partFor : List ℕ → Header → Part
-partFor s h = cond (isAccepted (checksOf s listLimit)) (recordPart (catcher (listIn s) h)) noPart
+partFor s h = cond (isAccepted (checksOf s listLimit)) (recordPart (headerCatcher (listIn s) h)) noPart
 
 -- a lent slice: its place in memory, and its bytes
 abbrev pub lent : RefT (List ℕ) → (ℕ × ℕ) × List ℕ

@@ -1,5 +1,5 @@
 // Lookup in a file of up to 256 entries.
-use crate::records::first_match;
+use crate::records::first_header_match;
 use policy::entry::Caught;
 use policy::header::Header;
 use policy::refusal::Refusal;
@@ -27,7 +27,7 @@ pub fn lookup_number(file: &[u8], h: Header) -> Looked
     ensures { λ r. ⌜ looked r ≡ lookupOf (now (file .entry)) h ⌝ }
 {
     match check_file(file, LIST_LIMIT) {
-        Checked::Good(n) => match first_match(file, HEAD_SIZE, n, h) {
+        Checked::Good(n) => match first_header_match(file, HEAD_SIZE, n, h) {
             Caught::By(i) => Looked::Entry(i),
             Caught::Uncaught => Looked::Uncaught,
         },

@@ -1,6 +1,7 @@
 // First match among packed records.
 use policy::entry::Caught;
 use policy::header::Header;
+use policy::ports::is_header;
 use wire::format::RECORD_SIZE;
 use wire::ranges::within1;
 use wire::ranges::within2;
@@ -11,6 +12,7 @@ ghost use lib.ListN.{length};
 ghost use Rattle.policy.specs.Entry.{matches};
 ghost use Rattle.policy.specs.Policy.{catcher};
 ghost use Rattle.wire.specs.Format.{entryAt, entriesFrom, recordSize};
+ghost use Rattle.lookup.specs.Lookup.{headerCatcher};
 
 // Whether the record at a place matches h. It is read field by field, as far as the first that misses.
 fn record_matches(s: &[u8], at: usize, h: Header) -> bool
@@ -45,4 +47,15 @@ pub fn first_match(s: &[u8], from: usize, n: usize, h: Header) -> Caught
         i += 1;
     }
     Caught::Uncaught
+}
+
+// The same, where h may be no header: then none does.
+pub fn first_header_match(s: &[u8], from: usize, n: usize, h: Header) -> Caught
+    requires { ⌜ from + recordSize * n ≤ length (now s) ⌝ }
+    ensures { λ r. ⌜ r ≡ headerCatcher (entriesFrom (now (s .entry)) from n) h ⌝ }
+{
+    if !is_header(h) {
+        return Caught::Uncaught;
+    }
+    first_match(s, from, n, h)
 }

@@ -1,4 +1,4 @@
-// Lookups on 01's examples P1, P2 and P5 and on damaged files: a line for each, with the answer and the bytes of the record that is handed back.
+// Lookups on 01's examples P1, P2 and P5, of combinations that are no headers, and on damaged files: a line for each, with the answer and the bytes of the record that is handed back.
 use libc::STDOUT_FILENO;
 use lookup::file::Looked;
 use lookup::file::lookup_number;
@@ -119,7 +119,10 @@ fn examples() {
     show(p2, 0, 0, 79, 0, 6);
     show(p2, 0, 0, 81, 0, 6);
     show(p2, 4294967295, 4294967295, 80, 65535, 6);
+    show(p2, 0, 0, 80, 0, 17);
     show(p2, 0, 0, 80, 0, 7);
+    show(p2, 0, 0, 0, 1, 7);
+    show(p2, 0, 0, 0, 0, 7);
     let p5 = b"001f01000100000000ffffffff00000000ffffffff0000ffff0000ffff05040001";
     show(p5, 0, 0, 0, 0, 5);
     let p5_good = b"001f01000100000000ffffffff00000000ffffffff0000ffff0000ffff05050001";
@@ -128,7 +131,7 @@ fn examples() {
     show(p5_good, 0, 0, 0, 0, 6);
 }
 
-// P2 with its second entry crossed; nothing; 4 bytes; a byte too few and too many; another version; counts 0, 2 and 257.
+// P2 with its second entry crossed, asked for a header and for a combination that is none; nothing; 4 bytes; a byte too few and too many; another version; counts 0, 2 and 257.
 fn damaged() {
     show(
         b"003b01000200000000ffffffff00000000ffffffff005000500000ffff0606000200000000ffffffff00000000ffffffff0000ffff0000fffffffe0001",
@@ -137,6 +140,14 @@ fn damaged() {
         80,
         0,
         6,
+    );
+    show(
+        b"003b01000200000000ffffffff00000000ffffffff005000500000ffff0606000200000000ffffffff00000000ffffffff0000ffff0000fffffffe0001",
+        0,
+        0,
+        80,
+        0,
+        7,
     );
     show(b"", 0, 0, 0, 0, 0);
     show(b"001f0100", 0, 0, 0, 0, 0);

@@ -31,20 +31,13 @@ crossed-none hs P b e = least-none hs (λ h. lies b h && P h) λ g a. is-false (
 
 -- ---- corner
 
--- every header-shaped row of the box is a header of the set
-abbrev pub Within : Headers → Box → Type 0
-Within hs b = (h : Header) → lies b h ≡ true → among hs h ≡ true
-
--- the low corner of such a box is its least header
-pub corner : (hs : Headers) (b : Box) (P : Header → Bool) → Within hs b → proper arity b ≡ true → P (header (lows arity b)) ≡ true
+-- the low corner of a box is its least header, if it is one
+pub corner : (hs : Headers) (b : Box) (P : Header → Bool) → among hs (header (lows arity b)) ≡ true → proper arity b ≡ true → P (header (lows arity b)) ≡ true
     → leastIn hs b P ≡ At (header (lows arity b))
 unfolding leastIn
-corner hs b P w p o =
-    least-at hs (λ h. lies b h && P h) (header (lows arity b)) (w (header (lows arity b)) i) (and-intro i o)
+corner hs b P a p o =
+    least-at hs (λ h. lies b h && P h) (header (lows arity b)) a (and-intro (corner-in arity b p) o)
     λ g a l. is-false (lies b g && P g) λ t. none-before arity b (fields g) (and-left (lies b g) (P g) t) l
-  where
-    i : inside arity b (lows arity b) ≡ true
-    i = corner-in arity b p
 
 -- ---- union
 

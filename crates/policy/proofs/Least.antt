@@ -73,7 +73,7 @@ scan-is (suc k) ns f =
 
 -- ---- the headers of a set fit their widths
 
-inside-fits : (k : ℕ) (ns : Row ℕ k) (b : Row Range k) (x : Row ℕ k) → highsFit k ns b ≡ true → inside k b x ≡ true → fits k ns x ≡ true
+pub inside-fits : (k : ℕ) (ns : Row ℕ k) (b : Row Range k) (x : Row ℕ k) → highsFit k ns b ≡ true → inside k b x ≡ true → fits k ns x ≡ true
 inside-fits zero ns b x f i = refl
 inside-fits (suc k) ns b x f i =
     let l = ltb-true (b .0 .high) (ns .0) (and-left (ltb (b .0 .high) (ns .0)) (highsFit k (ns .1) (b .1)) f) in

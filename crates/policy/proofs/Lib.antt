@@ -12,4 +12,6 @@ pub mod Every
 pub mod Loops
 pub mod Numbers
 pub mod Corner
+pub mod HeaderSet
+pub mod Protocols
 pub mod Slices

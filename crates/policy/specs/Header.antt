@@ -1,11 +1,12 @@
 -- Headers, their order, and sets of headers (01, "Headers, entries, lists").
-use Prim.Native.Nat.{ℕ, zero, suc, _-_, _^_}
+use Prim.Native.Nat.{ℕ, zero, suc, _+_, _-_, _^_}
 use mathlib.Core.Path.{_≡_, refl}
-use mathlib.Core.Bool.{Bool, true, false, _&&_, _||_}
-use mathlib.Core.List.{List, [], _∷_}
+use mathlib.Core.Bool.{Bool, true, false, cond, _&&_, _||_}
+use mathlib.Core.List.{List, [], _∷_, map}
 use Rattle.policy.specs.declared.header.Header.{Header}
 use Rattle.policy.specs.Row.{Row, precedes}
 use Rattle.policy.specs.Box.{Range, range, inside, highsFit}
+use Rattle.policy.specs.Ports.{Ports, ports, oneOf}
 
 -- how many numbers a header has
 abbrev pub arity : ℕ
@@ -68,6 +69,34 @@ fulls (suc k) ws = (range 0 (2 ^ (ws .0) - 1), fulls k (ws .1))
 abbrev pub everything : Box
 everything = fulls arity widths
 
--- the headers: every combination of numbers is one
-abbrev pub headers : Headers
-headers = record { boxes = everything ∷ []; fit = refl }
+-- protocols in a row that have the same ports
+pub record Span : Type 0 where
+  pub local : Bool
+  pub remote : Bool
+  pub protocols : Range
+
+-- the values of a port: every one, or 0 alone where there is no port
+abbrev pub portValues : Bool → Range
+portValues b = cond b (everything .1 .1 .0) (range 0 0)
+
+abbrev pub spanBox : Span → Box
+spanBox s = (everything .0, (everything .1 .0, (portValues (s .local), (portValues (s .remote), (s .protocols, tt)))))
+
+-- the spans of the protocols from a number on, in which those listed have ports
+abbrev pub spansFrom : Ports → ℕ → List ℕ → List Span
+spansFrom ps from [] = record { local = false; remote = false; protocols = range from 255 } ∷ []
+spansFrom ps from (q ∷ qs) =
+    record { local = false; remote = false; protocols = range from (q - 1) }
+    ∷ record { local = oneOf (ps .local) q; remote = oneOf (ps .remote) q; protocols = range q q }
+    ∷ spansFrom ps (q + 1) qs
+
+abbrev pub spans : Ports → List Span
+spans ps = spansFrom ps 0 (ps .local)
+
+-- the headers where these protocols have these ports, as boxes: proofs/Ports.antt shows that they are those of isHeader
+abbrev pub headersOf : (ps : Ports) → allFit (map spanBox (spans ps)) ≡ true → Headers
+headersOf ps f = record { boxes = map spanBox (spans ps); fit = f }
+
+-- the headers
+unfoldable pub headers : Headers
+headers = headersOf ports refl

@@ -1,5 +1,6 @@
 pub mod Row
 pub mod Box
+pub mod Ports
 pub mod Header
 pub mod Found
 pub mod Least

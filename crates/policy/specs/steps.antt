@@ -2,3 +2,4 @@ pub mod Cut
 pub mod Boxes
 pub mod Findings
 pub mod Rows
+pub mod Narrowed

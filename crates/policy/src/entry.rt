@@ -1,13 +1,16 @@
 // Entries: the eleven numbers of a record, at the format's widths.
 use crate::header::Header;
 use crate::header::numbers_of;
+use crate::ports::is_header;
 use crate::sides::ROW;
 use crate::sides::SIDES;
 use crate::sides::is_inside;
 use crate::sides::is_proper;
 use crate::sides::row_sides;
 ghost use mathlib.Core.Path.{_≡_};
+ghost use mathlib.Core.Bool.{_&&_};
 ghost use Rattle.policy.specs.Entry.{selector, matches, crossed};
+ghost use Rattle.policy.specs.Header.{among, headers};
 ghost use Rattle.policy.specs.Sides.{boxOf};
 ghost use Rattle.policy.specs.steps.Rows.{numbersOf};
 
@@ -67,6 +70,16 @@ pub fn matches_header(e: Entry, h: Header) -> bool
     let sides = sides_of(e);
     let numbers = numbers_of(h);
     is_inside(&sides, &numbers)
+}
+
+// Whether e matches h, and h is a header. Few entries match, so that comes first.
+pub fn catches_header(e: Entry, h: Header) -> bool
+    ensures { λ r. ⌜ r ≡ (matches e h && among headers h) ⌝ }
+{
+    if !matches_header(e, h) {
+        return false;
+    }
+    is_header(h)
 }
 
 // Whether a range of e has its low above its high.

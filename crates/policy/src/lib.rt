@@ -3,5 +3,6 @@ pub mod actions;
 pub mod entry;
 pub mod header;
 pub mod pair;
+pub mod ports;
 pub mod refusal;
 pub mod sides;

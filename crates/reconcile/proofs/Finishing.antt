@@ -24,7 +24,7 @@ use Rattle.policy.proofs.Bool.{not-true, not-false}
 use Rattle.wire.proofs.Lists.{zeroEntry}
 use Rattle.region.specs.declared.treated.Sets.the-variants.{Same, Other}
 use Rattle.region.specs.steps.Treated.{judged}
-use Rattle.region.proofs.Union.{least-gap}
+use Rattle.region.proofs.Everywhere.{least-gap}
 use Rattle.reconcile.specs.Rules.{isNothing, noHeader, isEmpty, needless, strike, struckFrom, struck}
 use Rattle.reconcile.proofs.Striking.{needless-is}
 use Rattle.reconcile.proofs.Judged.{empty-judged, differs-judged}

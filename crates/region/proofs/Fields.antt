@@ -15,7 +15,7 @@ use Rattle.policy.specs.Row.{Row}
 use Rattle.policy.specs.Box.{Range, range, within, inside}
 use Rattle.policy.specs.steps.Boxes.{lows}
 use Rattle.policy.specs.steps.Cut.{empty, above}
-use Rattle.policy.specs.Header.{arity, Box, everything, headers}
+use Rattle.policy.specs.Header.{arity, Box}
 use Rattle.policy.proofs.Bool.{and-left, and-right}
 use Rattle.policy.proofs.Conjunctions.{ends-are, paired}
 use Rattle.policy.proofs.Box.{le-high}
@@ -93,13 +93,10 @@ end-below b s f x y o p q = less x y (field s 0 f .high) (field b 0 f .high) p q
     less : (x y m n : ℕ) → x ≡ m → y ≡ n → m < n → x < y
     less x y m n p q l = omega arith
 
-module _ (b s : List ℕ) (f x : ℕ) (n : length b ≡ sides) (o : Short arity f (boxOf b 0) (boxOf s 0)) where
-  l : f < arity
-  l = short-field arity f (boxOf b 0) (boxOf s 0) o
-
-  raised : holdsCorner (boxOf s 0) (boxOf b 0) ≡ true → x ≡ field s 0 f .high → boxOf (set b (2 * f) (x + 1)) 0 ≡ atField above arity f (boxOf b 0) (boxOf s 0)
-  unfolding boxOf
-  raised c e = changed above arity f (field b 0) (field s 0) (field (set b (2 * f) (x + 1)) 0) l here other
+-- a side that is stored: the field has it, and the others stay
+module _ (b : List ℕ) (f x : ℕ) (l : f < arity) (n : length b ≡ sides) where
+  low-here : field (set b (2 * f) x) 0 f ≡ range x (field b 0 f .high)
+  low-here = ends-are (ap (λ (k : ℕ). getD (set b (2 * f) x) k 0) (add-zero (2 * f)) ∙ getD-set-same b (2 * f) x 0 (place f (length b) l n)) (getD-set-other b (2 * f) (2 * f + 1 + 0) x 0 (odd f))
     where
       place : (f n : ℕ) → f < arity → n ≡ sides → 2 * f < n
       place f n l e = omega arith
@@ -107,30 +104,19 @@ module _ (b s : List ℕ) (f x : ℕ) (n : length b ≡ sides) (o : Short arity 
       odd : (f : ℕ) → 2 * f + 1 + 0 ≡ 2 * f → ⊥
       odd f e = omega arith
 
-      here : field (set b (2 * f) (x + 1)) 0 f ≡ above (field b 0 f) (field s 0 f)
-      here =
-          ends-are (ap (λ (k : ℕ). getD (set b (2 * f) (x + 1)) k 0) (add-zero (2 * f)) ∙ getD-set-same b (2 * f) (x + 1) 0 (place f (length b) l n)) (getD-set-other b (2 * f) (2 * f + 1 + 0) (x + 1) 0 (odd f))
-          ∙ ends-are (higher (field b 0 f .low) x (field s 0 f .high) e (end-in b s f o c .0)) refl
-          ∙ sym (ap (λ (t : Bool). cond t (range (max (field b 0 f .low) (field s 0 f .high + 1)) (field b 0 f .high)) empty) (lt-ltb (field s 0 f .high) (field b 0 f .high) (end-in b s f o c .1)))
-        where
-          higher : (m x n : ℕ) → x ≡ n → m ≤ n → x + 1 ≡ max m (n + 1)
-          higher m x n e l = omega arith
+  low-other : (j : ℕ) → (j ≡ f → ⊥) → field (set b (2 * f) x) 0 j ≡ field b 0 j
+  low-other j d = ends-are (getD-set-other b (2 * f) (2 * j + 0) x 0 (λ e. d (even j e))) (getD-set-other b (2 * f) (2 * j + 1 + 0) x 0 (off j))
+    where
+      even : (j : ℕ) → 2 * j + 0 ≡ 2 * f → j ≡ f
+      even j e = omega arith
 
-      other : (j : ℕ) → (j ≡ f → ⊥) → field (set b (2 * f) (x + 1)) 0 j ≡ field b 0 j
-      other j d = ends-are (getD-set-other b (2 * f) (2 * j + 0) (x + 1) 0 (λ e. d (even j e))) (getD-set-other b (2 * f) (2 * j + 1 + 0) (x + 1) 0 (off j))
-        where
-          even : (j : ℕ) → 2 * j + 0 ≡ 2 * f → j ≡ f
-          even j e = omega arith
+      off : (j : ℕ) → 2 * j + 1 + 0 ≡ 2 * f → ⊥
+      off j e = omega arith
 
-          off : (j : ℕ) → 2 * j + 1 + 0 ≡ 2 * f → ⊥
-          off j e = omega arith
-
-  pub raised-low : (y : ℕ) → holdsCorner (boxOf s 0) (boxOf b 0) ≡ true → x ≡ field s 0 f .high → y ≡ x + 1 → boxOf (set b (2 * f) y) 0 ≡ atField above arity f (boxOf b 0) (boxOf s 0)
-  raised-low y c e p = ap (λ (y : ℕ). boxOf (set b (2 * f) y) 0) p ∙ raised c e
-
-  pub lowered-high : x ≡ field s 0 f .high → boxOf (set b (2 * f + 1) x) 0 ≡ atField upTo arity f (boxOf b 0) (boxOf s 0)
-  unfolding boxOf
-  lowered-high e = changed upTo arity f (field b 0) (field s 0) (field (set b (2 * f + 1) x) 0) l here other
+  high-here : field (set b (2 * f + 1) x) 0 f ≡ range (field b 0 f .low) x
+  high-here =
+      ends-are (getD-set-other b (2 * f + 1) (2 * f + 0) x 0 (even f))
+      (ap (λ (k : ℕ). getD (set b (2 * f + 1) x) k 0) (add-zero (2 * f + 1)) ∙ getD-set-same b (2 * f + 1) x 0 (place f (length b) l n))
     where
       place : (f n : ℕ) → f < arity → n ≡ sides → 2 * f + 1 < n
       place f n l e = omega arith
@@ -138,22 +124,53 @@ module _ (b s : List ℕ) (f x : ℕ) (n : length b ≡ sides) (o : Short arity 
       even : (f : ℕ) → 2 * f + 0 ≡ 2 * f + 1 → ⊥
       even f e = omega arith
 
-      here : field (set b (2 * f + 1) x) 0 f ≡ upTo (field b 0 f) (field s 0 f)
+  high-other : (j : ℕ) → (j ≡ f → ⊥) → field (set b (2 * f + 1) x) 0 j ≡ field b 0 j
+  high-other j d = ends-are (getD-set-other b (2 * f + 1) (2 * j + 0) x 0 (off j)) (getD-set-other b (2 * f + 1) (2 * j + 1 + 0) x 0 (λ e. d (odd j e)))
+    where
+      off : (j : ℕ) → 2 * j + 0 ≡ 2 * f + 1 → ⊥
+      off j e = omega arith
+
+      odd : (j : ℕ) → 2 * j + 1 + 0 ≡ 2 * f + 1 → j ≡ f
+      odd j e = omega arith
+
+  -- as a box
+  pub low-put : boxOf (set b (2 * f) x) 0 ≡ atField (λ r s. range x (r .high)) arity f (boxOf b 0) (boxOf b 0)
+  unfolding boxOf
+  low-put = changed (λ r s. range x (r .high)) arity f (field b 0) (field b 0) (field (set b (2 * f) x) 0) l low-here low-other
+
+  pub high-put : boxOf (set b (2 * f + 1) x) 0 ≡ atField (λ r s. range (r .low) x) arity f (boxOf b 0) (boxOf b 0)
+  unfolding boxOf
+  high-put = changed (λ r s. range (r .low) x) arity f (field b 0) (field b 0) (field (set b (2 * f + 1) x) 0) l high-here high-other
+
+module _ (b s : List ℕ) (f x : ℕ) (n : length b ≡ sides) (o : Short arity f (boxOf b 0) (boxOf s 0)) where
+  l : f < arity
+  l = short-field arity f (boxOf b 0) (boxOf s 0) o
+
+  raised : holdsCorner (boxOf s 0) (boxOf b 0) ≡ true → x ≡ field s 0 f .high → boxOf (set b (2 * f) (x + 1)) 0 ≡ atField above arity f (boxOf b 0) (boxOf s 0)
+  unfolding boxOf
+  raised c e = changed above arity f (field b 0) (field s 0) (field (set b (2 * f) (x + 1)) 0) l here (low-other b f (x + 1) l n)
+    where
+      here : field (set b (2 * f) (x + 1)) 0 f ≡ above (field b 0 f) (field s 0 f)
       here =
-          ends-are (getD-set-other b (2 * f + 1) (2 * f + 0) x 0 (even f))
-          (ap (λ (k : ℕ). getD (set b (2 * f + 1) x) k 0) (add-zero (2 * f + 1)) ∙ getD-set-same b (2 * f + 1) x 0 (place f (length b) l n) ∙ lower (field b 0 f .high) x (field s 0 f .high) e (end-short b s f o))
+          low-here b f (x + 1) l n
+          ∙ ends-are (higher (field b 0 f .low) x (field s 0 f .high) e (end-in b s f o c .0)) refl
+          ∙ sym (ap (λ (t : Bool). cond t (range (max (field b 0 f .low) (field s 0 f .high + 1)) (field b 0 f .high)) empty) (lt-ltb (field s 0 f .high) (field b 0 f .high) (end-in b s f o c .1)))
+        where
+          higher : (m x n : ℕ) → x ≡ n → m ≤ n → x + 1 ≡ max m (n + 1)
+          higher m x n e l = omega arith
+
+  pub raised-low : (y : ℕ) → holdsCorner (boxOf s 0) (boxOf b 0) ≡ true → x ≡ field s 0 f .high → y ≡ x + 1 → boxOf (set b (2 * f) y) 0 ≡ atField above arity f (boxOf b 0) (boxOf s 0)
+  raised-low y c e p = ap (λ (y : ℕ). boxOf (set b (2 * f) y) 0) p ∙ raised c e
+
+  pub lowered-high : x ≡ field s 0 f .high → boxOf (set b (2 * f + 1) x) 0 ≡ atField upTo arity f (boxOf b 0) (boxOf s 0)
+  unfolding boxOf
+  lowered-high e = changed upTo arity f (field b 0) (field s 0) (field (set b (2 * f + 1) x) 0) l here (high-other b f x l n)
+    where
+      here : field (set b (2 * f + 1) x) 0 f ≡ upTo (field b 0 f) (field s 0 f)
+      here = high-here b f x l n ∙ ends-are refl (lower (field b 0 f .high) x (field s 0 f .high) e (end-short b s f o))
         where
           lower : (m x n : ℕ) → x ≡ n → n < m → x ≡ min m n
           lower m x n e l = omega arith
-
-      other : (j : ℕ) → (j ≡ f → ⊥) → field (set b (2 * f + 1) x) 0 j ≡ field b 0 j
-      other j d = ends-are (getD-set-other b (2 * f + 1) (2 * j + 0) x 0 (off j)) (getD-set-other b (2 * f + 1) (2 * j + 1 + 0) x 0 (λ e. d (odd j e)))
-        where
-          off : (j : ℕ) → 2 * j + 0 ≡ 2 * f + 1 → ⊥
-          off j e = omega arith
-
-          odd : (j : ℕ) → 2 * j + 1 + 0 ≡ 2 * f + 1 → j ≡ f
-          odd j e = omega arith
 
 -- ---- the search for a field to cut, from the last down
 
@@ -216,11 +233,3 @@ next-reaches f b s (inl p) l = absurd (no f (p .0) l)
     no : (f : ℕ) → f < arity → arity ≤ f → ⊥
     no f e l = omega arith
 next-reaches f b s (inr p) l = p .1
-
--- ---- the set of headers has one box
-
-pub only-box : (i : ℕ) (b : Box) → i < 1 → b ≡ everything → b ≡ getD (headers .boxes) i everything
-only-box i b l e = e ∙ sym (ap (λ (j : ℕ). getD (headers .boxes) j everything) (at-zero i l))
-  where
-    at-zero : (i : ℕ) → i < 1 → i ≡ 0
-    at-zero i l = omega arith

@@ -5,7 +5,8 @@ pub mod Choosing
 pub mod Split
 pub mod Meeting
 pub mod Opening
-pub mod Union
+pub mod Everywhere
+pub mod Narrowing
 pub mod Steps
 pub mod Uses
 pub mod Judging

@@ -34,7 +34,7 @@ use Rattle.region.specs.steps.Corner.{selectorIn}
 use Rattle.region.specs.ListChecks.{gapOf, listChecks}
 use Rattle.region.specs.steps.Covering.{gapChecked, listChecksOf, InRows, Decoded}
 use Rattle.region.proofs.Members.{catches}
-use Rattle.region.proofs.Union.{in-everything}
+use Rattle.policy.proofs.HeaderSet.{in-everything}
 
 -- ---- check 5
 

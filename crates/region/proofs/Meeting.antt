@@ -15,8 +15,9 @@ use Rattle.policy.specs.Entry.{selector}
 use Rattle.policy.proofs.Bool.{clash, is-false, and-intro, and-left, and-right}
 use Rattle.policy.proofs.Box.{corner-in, in-proper, meet-is}
 use Rattle.region.specs.steps.Corner.{holdsCorner, selectorIn, meeting}
+use Rattle.region.specs.steps.Narrowing.{Part}
 use Rattle.region.proofs.Members.{first-in, later-in}
-use Rattle.region.proofs.Split.{Part, Outside}
+use Rattle.region.proofs.Split.{Outside}
 
 -- two boxes that meet have a row in common: the low corner of their common part
 shared-left : (p e : Box) → proper arity (meet arity p e) ≡ true → inside arity p (lows arity (meet arity p e)) ≡ true

@@ -3,7 +3,7 @@
 use Prim.Native.Nat.{ℕ}
 use mathlib.Core.Path.{_≡_, refl, sym, _∙_, ap, ap₂, fun-ext}
 use mathlib.Core.Bool.{Bool, true, false, not, cond, _&&_}
-use mathlib.Core.List.{List, [], _∷_, _++_}
+use mathlib.Core.List.{List, [], _∷_, _++_, map}
 use Rattle.policy.specs.declared.header.Header.{Header}
 use Rattle.policy.specs.declared.header.Found.{Found}
 use Rattle.policy.specs.declared.header.Found.the-variants.{At, Nothing}
@@ -11,19 +11,18 @@ use Rattle.policy.specs.declared.entry.Entry.{Entry}
 use Rattle.policy.specs.Box.{proper, meet}
 use Rattle.policy.specs.steps.Boxes.{lows}
 use Rattle.policy.specs.steps.Cut.{cut}
-use Rattle.policy.specs.Header.{arity, fields, header, Box, lies, Headers, inAny, everything}
+use Rattle.policy.specs.Header.{arity, fields, header, Box, lies, Headers, inAny, among, everything}
 use Rattle.policy.specs.steps.Findings.{lesser, minOver, minFrom}
 use Rattle.policy.specs.Least.{least, leastIn}
 use Rattle.policy.specs.Entry.{selector, matches}
 use Rattle.policy.specs.Policy.{actions, allowed, missed}
 use Rattle.policy.proofs.Bool.{and-right, or-left, or-right}
-use Rattle.policy.proofs.Box.{meet-is}
+use Rattle.policy.proofs.Box.{corner-in, meet-is}
 use Rattle.policy.proofs.Branch.{always, leastIn-when, crossed-none, corner, over-set, branch}
 use Rattle.policy.proofs.Policy.{missed-cons}
 use Rattle.region.specs.declared.treated.Sets.{Sets}
-use Rattle.region.specs.steps.Corner.{Within}
 use Rattle.region.specs.steps.Treated.{wanted, judged}
-use Rattle.region.proofs.Union.{min-map, least-everywhere}
+use Rattle.region.proofs.Everywhere.{least-everywhere}
 
 -- ---- the model
 
@@ -66,12 +65,21 @@ min-proper z f (b ∷ bs) e = go (min-proper z f bs e) (proper arity b) refl
     go ih true q = ap (lesser (f b)) ih
     go ih false q = ap (λ (r : Found). lesser r (minFrom z f bs)) (e b q) ∙ ih
 
--- a box of headers has its low corner for its least header, if it is proper
+-- the least over a list that is mapped
+min-map : {A B : Type 0} (f : B → Found) (g : A → B) (xs : List A) → minOver f (map g xs) ≡ minOver (λ x. f (g x)) xs
+min-map f g [] = refl
+min-map f g (x ∷ xs) = ap (lesser (f (g x))) (min-map f g xs)
+
+-- every row of the box is a header of the set
+abbrev Within : Headers → Box → Type 0
+Within hs b = (h : Header) → lies b h ≡ true → among hs h ≡ true
+
+-- such a box has its low corner for its least header, if it is proper
 corner-of : (hs : Headers) (b : Box) → Within hs b → leastIn hs b always ≡ cornerOf b
 corner-of hs b w = go (proper arity b) refl
   where
     go : (t : Bool) → proper arity b ≡ t → leastIn hs b always ≡ cond t (At (header (lows arity b))) Nothing
-    go true p = corner hs b always w p refl
+    go true p = corner hs b always (w (header (lows arity b)) (corner-in arity b p)) p refl
     go false p = crossed-none hs always b p
 
 -- the least header of a box, over boxes that are all in the set

@@ -7,21 +7,15 @@ use Rattle.policy.specs.declared.header.Header.{Header}
 use Rattle.policy.specs.declared.header.Found.{Found}
 use Rattle.policy.specs.declared.header.Found.the-variants.{At, Nothing}
 use Rattle.policy.specs.Row.{Row, precedes}
-use Rattle.policy.specs.Box.{proper}
-use Rattle.policy.specs.steps.Boxes.{lows, fits}
-use Rattle.policy.specs.Header.{arity, fields, header, before, Box, Headers, sizes}
+use Rattle.policy.specs.steps.Boxes.{lows}
+use Rattle.policy.specs.Header.{arity, fields, header, before, Box, Headers}
 use Rattle.policy.specs.steps.Findings.{lesser}
 use Rattle.policy.specs.Least.{leastIn}
 use Rattle.policy.proofs.Bool.{clash, is-false}
 use Rattle.policy.proofs.Order.{Order, earlier, equal, later, order, pre-trans, pre-irrefl}
-use Rattle.policy.proofs.Box.{corner-in, none-before}
-use Rattle.policy.proofs.Least.{among-fits}
+use Rattle.policy.proofs.Box.{none-before}
 use Rattle.policy.proofs.Branch.{found-lies}
-use Rattle.region.specs.steps.Corner.{Within, improves}
-
--- the low corner of a box of headers fits the widths of a header
-pub corner-fits : (hs : Headers) (b : Box) → Within hs b → proper arity b ≡ true → fits arity sizes (lows arity b) ≡ true
-corner-fits hs b w p = among-fits hs (header (lows arity b)) (w (header (lows arity b)) (corner-in arity b p))
+use Rattle.region.specs.steps.Corner.{improves}
 
 -- a header that comes before the finding is the lesser
 pub improved : (h : Header) (best : Found) → improves h best ≡ true → At h ≡ lesser (At h) best

@@ -17,6 +17,7 @@ use Rattle.policy.specs.Least.{least, leastIn}
 use Rattle.policy.proofs.Bool.{clash, is-false, and-intro, and-left, and-right, same-truth}
 use Rattle.policy.proofs.Box.{low-le, le-high, within-by, in-first, in-rest, corner-in, above-is}
 use Rattle.policy.proofs.Least.{union}
+use Rattle.region.specs.steps.Narrowing.{Part}
 use Rattle.region.specs.steps.Pieces.{upTo, atField, Short}
 
 -- x is past the end of field number f of s
@@ -79,10 +80,6 @@ past-out (suc k) zero s x p = is-false (inside (suc k) s x) λ i. off (s .0 .hig
     off : (m n : ℕ) → m < n → n ≤ m → ⊥
     off m n p q = omega arith
 past-out (suc k) (suc f) s x p = is-false (inside (suc k) s x) λ i. clash (in-rest k s x i) (past-out k f (s .1) (x .1) p)
-
--- p lies in b
-abbrev pub Part : Box → Box → Type 0
-Part p b = (x : Row ℕ arity) → inside arity p x ≡ true → inside arity b x ≡ true
 
 -- p lies outside s
 abbrev pub Outside : Box → Box → Type 0

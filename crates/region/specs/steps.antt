@@ -1,4 +1,5 @@
 pub mod Corner
+pub mod Narrowing
 pub mod Searchable
 pub mod Pieces
 pub mod Treated

@@ -2,10 +2,8 @@
 use crate::cut::keep_above;
 use crate::cut::keep_up_to;
 use crate::cut::next_field;
-use crate::headers::HEADER_BOXES;
-use crate::headers::header_box;
 use crate::pick::Picked;
-use crate::pick::pick_before;
+use crate::pick::pick_header;
 use crate::pick::row_of_two;
 use crate::rank::LEVELS;
 use crate::rank::fewer;
@@ -15,6 +13,7 @@ use crate::size::goes_first;
 use crate::size::most_headers;
 use policy::header::Found;
 use policy::header::low_corner;
+use policy::header::whole;
 use policy::sides::FIELDS;
 use policy::sides::ROW;
 use policy::sides::SIDES;
@@ -44,7 +43,7 @@ fn search_pieces(
     left: usize,
     levels: u32,
 ) -> Found
-    requires { ⌜ (length (now x) ≡ sides) × ((reaches arity (boxOf (now s) 0) (boxOf (now x) 0) ≡ false) × Ready headers (rowsIn (now a) ++ rowsIn (now b)) (boxOf (now s) 0) (boxOf (now x) 0) left) ⌝ }
+    requires { ⌜ (length (now x) ≡ sides) × ((reaches arity (boxOf (now s) 0) (boxOf (now x) 0) ≡ false) × Ready (rowsIn (now a) ++ rowsIn (now b)) (boxOf (now s) 0) (boxOf (now x) 0) left) ⌝ }
     ensures { λ r. ⌜ (length (now (x .exit)) ≡ sides) × Remainder headers (rowsIn (now (a .entry)) ++ rowsIn (now (b .entry))) (boxOf (now (x .entry)) 0) best left (boxOf (now (x .exit)) 0) r ⌝ }
 {
     let mut ranks = [0u32; FIELDS];
@@ -75,8 +74,8 @@ fn search_pieces(
     found
 }
 
-// The lesser of best and the least header of x that no row matches. The low corner is the one, if no row holds it. Else a row that does is cut
-// off x, and what that leaves in x is searched next.
+// The lesser of best and the least header of x that no row matches. Once x is narrowed to its headers, the low corner is the one, if no row holds it.
+// Else a row that does is cut off x, and what that leaves in x is searched next.
 fn least_in_piece(
     a: &[u32],
     b: &[u32],
@@ -85,12 +84,12 @@ fn least_in_piece(
     left: usize,
     levels: u32,
 ) -> Found
-    requires { ⌜ (length (now x) ≡ sides) × Searchable headers (rowsIn (now a) ++ rowsIn (now b)) (boxOf (now x) 0) left ⌝ }
+    requires { ⌜ (length (now x) ≡ sides) × Searchable (rowsIn (now a) ++ rowsIn (now b)) (boxOf (now x) 0) left ⌝ }
     ensures { λ r. ⌜ r ≡ lesser (leastIn headers (boxOf (now (x .entry)) 0) (missed (rowsIn (now (a .entry)) ++ rowsIn (now (b .entry))))) best ⌝ }
 {
     let mut found = best;
     let mut n = left;
-    let mut picked = pick_before(a, b, x, found);
+    let mut picked = pick_header(a, b, x, found);
     loop {
         match picked {
             Picked::Free => {
@@ -106,7 +105,7 @@ fn least_in_piece(
                 }
                 found = search_pieces(a, b, x, &s, found, n, levels);
                 n -= 1;
-                picked = pick_before(a, b, x, found);
+                picked = pick_header(a, b, x, found);
             }
         }
     }
@@ -116,19 +115,12 @@ fn least_in_piece(
 pub fn least_open(a: &[u32], b: &[u32], x: &[u32; SIDES], best: Found) -> Found
     ensures { λ r. ⌜ r ≡ lesser (leastIn headers (boxOf (now (x .entry)) 0) (missed (rowsIn (now (a .entry)) ++ rowsIn (now (b .entry))))) best ⌝ }
 {
-    let left = a.len() / ROW + b.len() / ROW;
-    let mut found = best;
-    let mut i = HEADER_BOXES;
-    while 0 < i {
-        i -= 1;
-        let all = header_box(i);
-        let mut part = part_in_row(&all, 0, x);
-        if !is_proper(&part) {
-            continue;
-        }
-        found = least_in_piece(a, b, &mut part, found, left, LEVELS);
+    let all = whole();
+    let mut part = part_in_row(&all, 0, x);
+    if !is_proper(&part) {
+        return best;
     }
-    found
+    least_in_piece(a, b, &mut part, best, a.len() / ROW + b.len() / ROW, LEVELS)
 }
 
 // The same for the rows of one list.

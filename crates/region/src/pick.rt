@@ -1,5 +1,6 @@
 // A row that holds the low corner of a box.
 use crate::corner::is_improved;
+use crate::headers::narrow_to_headers;
 use crate::row::holds_corner;
 use crate::row::row_reaches;
 use policy::header::Found;
@@ -18,10 +19,11 @@ ghost use Prim.Native.Nat.{_+_, _-_, _*_, _/_, _≤_, _<_};
 ghost use lib.ListN.{length};
 ghost use Rattle.policy.specs.Box.{proper};
 ghost use Rattle.policy.specs.steps.Boxes.{lows};
-ghost use Rattle.policy.specs.Header.{arity, headers};
+ghost use Rattle.policy.specs.Header.{arity, header, among, headers};
 ghost use Rattle.policy.specs.Sides.{boxOf};
 ghost use Rattle.policy.specs.steps.Rows.{sides, rowSize, rowsIn};
-ghost use Rattle.region.specs.steps.Corner.{Within, Picks, PicksBefore, HoldsLast, Chooses, Better, Covers, selectorIn, numberOf, shifted};
+ghost use Rattle.region.specs.steps.Narrowing.{Fitting, Narrows};
+ghost use Rattle.region.specs.steps.Corner.{Picks, PicksBefore, HoldsLast, Chooses, Better, Covers, selectorIn, numberOf, shifted};
 
 // The number of a row that holds the low corner of a box; or no row holds it; or the rows hold all of the box.
 pub enum Picked {
@@ -246,14 +248,25 @@ fn pick_of_two(a: &[u32], b: &[u32], x: &[u32; SIDES]) -> Picked
 }
 
 // The same, if the low corner of x comes before best. If not, nothing in x does, and it counts as covered.
-pub(crate) fn pick_before(a: &[u32], b: &[u32], x: &[u32; SIDES], best: Found) -> Picked
-    requires { ⌜ (proper arity (boxOf (now x) 0) ≡ true) × Within headers (boxOf (now x) 0) ⌝ }
+fn pick_before(a: &[u32], b: &[u32], x: &[u32; SIDES], best: Found) -> Picked
+    requires { ⌜ (proper arity (boxOf (now x) 0) ≡ true) × (among headers (header (lows arity (boxOf (now x) 0))) ≡ true) ⌝ }
     ensures { λ r. ⌜ PicksBefore (rowsIn (now (a .entry)) ++ rowsIn (now (b .entry))) (boxOf (now (x .entry)) 0) best r ⌝ }
 {
     if !is_improved(low_corner(x), best) {
         return Picked::Covered;
     }
     pick_of_two(a, b, x)
+}
+
+// The same for x narrowed to its headers. Without any it counts as covered.
+pub(crate) fn pick_header(a: &[u32], b: &[u32], x: &mut [u32; SIDES], best: Found) -> Picked
+    requires { ⌜ (length (now x) ≡ sides) × ((proper arity (boxOf (now x) 0) ≡ true) × Fitting (boxOf (now x) 0)) ⌝ }
+    ensures { λ r. ⌜ (length (now (x .exit)) ≡ sides) × (Narrows headers (boxOf (now (x .entry)) 0) (boxOf (now (x .exit)) 0) × PicksBefore (rowsIn (now (a .entry)) ++ rowsIn (now (b .entry))) (boxOf (now (x .exit)) 0) best r) ⌝ }
+{
+    if !narrow_to_headers(x) {
+        return Picked::Covered;
+    }
+    pick_before(a, b, x, best)
 }
 
 // The sides of row number i of two lists.

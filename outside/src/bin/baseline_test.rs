@@ -3,13 +3,37 @@
 use outside::baseline;
 use outside::cells;
 use outside::daemon_cases::{comparisons, lookups};
-use outside::entry::{file, header_bytes, records, Entry, Header, List, ALL};
-use outside::generate::{any_list, box_near, long_list, program_input, Sets};
+use outside::entry::{file, header_bytes, is_header, records, Entry, Header, List, ALL};
+use outside::generate::{any_list, box_near, header_near, long_list, program_input, Sets};
 use outside::merge::{merge, Form, Merged};
 use outside::model::{self, Refusal, Want};
 use outside::random::Random;
 use outside::report::Cases;
-use outside::search::{decode, Decoded, Packed};
+use outside::search::{common_part, decode, trimmed, Decoded, Packed};
+
+/// A trimmed box has the box's headers, and its low corner is the least.
+fn trimmings(cases: &mut Cases, wanted: usize, random: &mut Random) {
+    let mut without = 0;
+    for _ in 0..wanted {
+        let list = any_list(6, Sets::Any, random);
+        let x = box_near(&list, random);
+        if model::is_crossed(&x) {
+            continue;
+        }
+        let (least, trimmed) = (model::least_header(&x), trimmed(&x));
+        without += least.is_none() as usize;
+        let case = || format!("{x:?}, trimmed");
+        cases.same(trimmed.map(|y| y.low), least, case);
+        cases.same(trimmed.map(|y| common_part(&x, &y)), trimmed, case);
+        let near = header_near(&list, random);
+        let h = std::array::from_fn(|f| near[f].clamp(x.low[f], x.high[f]));
+        if is_header(&h) {
+            let held = trimmed.is_some_and(|y| model::holds(&y, &h));
+            cases.same(held, true, || format!("{h:?} in {x:?}, trimmed"));
+        }
+    }
+    println!("  trimmed boxes: {without} without a header");
+}
 
 fn searches(cases: &mut Cases, wanted: usize, random: &mut Random) {
     for _ in 0..wanted {
@@ -99,6 +123,7 @@ fn main() {
     comparisons(&mut cases, wanted / 4, &mut random, &baseline::compare);
     comparisons(&mut cases, wanted / 4, &mut random, &baseline::compare_decoded);
     comparisons(&mut cases, wanted / 10, &mut random, &compare_by_cells);
+    trimmings(&mut cases, wanted / 4, &mut random);
     searches(&mut cases, wanted / 8, &mut random);
     mergings(&mut cases, wanted / 20, &mut random);
     cases.done("the Rust versions answer as the model does");

@@ -1,11 +1,11 @@
-//! The model against 01's examples, against the point-by-point walk of small header spaces, and
-//! its bench against the history of calls.
+//! The model against the examples of 01 and of Wish 1, against the point-by-point walk of small header
+//! spaces, and its bench against the history of calls.
 
 use outside::calls::{bench_calls, call_list};
-use outside::entry::{file, Box5, Entry, List, ALL};
-use outside::generate::{box_near, shaped_list, single_ports, small_list, Sets};
-use outside::model::{self, Bench, Refusal, Want};
-use outside::points::{is_small, least_uncaught, merged, points};
+use outside::entry::{file, is_header, Box5, Entry, Header, List, ALL};
+use outside::generate::{box_near, only, shaped_list, single_ports, small_list, Sets, CROWDS};
+use outside::model::{self, holds, Bench, Refusal, Want};
+use outside::points::{combinations, is_small, least_uncaught, merged, points, small_box};
 use outside::random::Random;
 use outside::replay::{replayed, Call};
 use outside::report::Cases;
@@ -16,14 +16,6 @@ const ESP: u16 = 4;
 
 fn entry(selector: Box5, actions: u16) -> Entry {
     Entry { selector, actions }
-}
-
-/// ALL but for one field's range.
-fn only(f: usize, low: u32, high: u32) -> Box5 {
-    let mut b = ALL;
-    b.low[f] = low;
-    b.high[f] = high;
-    b
 }
 
 fn merge_of(lists: &[List]) -> Result<List, Refusal> {
@@ -104,11 +96,92 @@ fn examples(cases: &mut Cases) {
     cases.same(model::program(&[]), "refused 0 8\n".to_string(), none);
 }
 
-/// The cells against the points: gaps, searches and whole mergings.
+/// What a header is, and the clinic's case: Wish 1 of 02.
+fn ports_where_there_are_ports(cases: &mut Cases) {
+    let none = || "an example of Wish 1".to_string();
+    let looked_up = |list: &List, h| model::lookup(&file(list), &h);
+
+    for p in 0..=255 {
+        let has_ports = matches!(p, 6 | 17 | 33 | 132 | 136);
+        let protocol = || format!("protocol {p}");
+        cases.same(is_header(&[1, 2, 0, 0, p]), true, protocol);
+        for ports in [(80, 0), (0, 80), (1, 65535)] {
+            cases.same(is_header(&[1, 2, ports.0, ports.1, p]), has_ports, protocol);
+        }
+    }
+
+    // One party speaks of local port 80, the other of GRE, and no header is both.
+    let (port, gre) = (only(2, 80, 80), only(4, 47, 47));
+    let clinic = [
+        vec![entry(port, BYPASS), entry(ALL, BYPASS | DISCARD)],
+        vec![entry(gre, DISCARD), entry(ALL, BYPASS | DISCARD)],
+    ];
+    let three = vec![entry(port, BYPASS), entry(gre, DISCARD), entry(ALL, BYPASS | DISCARD)];
+    cases.same(merge_of(&clinic), Ok(three), none);
+    let mut tcp = clinic.clone();
+    tcp[1][0].selector = only(4, 6, 6);
+    cases.same(merge_of(&tcp), Err(Refusal::Conflict([0, 0, 80, 0, 6])), none);
+
+    // Protocols 0 to 5 are matched with port 0 alone, and they have no other.
+    let mut zero = only(2, 0, 0);
+    zero.high[3] = 0;
+    let covering = vec![entry(zero, DISCARD), entry(only(4, 6, 255), DISCARD)];
+    cases.same(model::gap(&covering), Ok(()), none);
+    let gap = vec![entry(zero, DISCARD), entry(only(4, 7, 255), DISCARD)];
+    cases.same(model::gap(&gap), Err(Refusal::Gap([0, 0, 0, 1, 6])), none);
+
+    // Lookup: uncaught, but the file is checked first.
+    cases.same(looked_up(&clinic[0], [0, 0, 80, 0, 47]), Ok(None), none);
+    cases.same(looked_up(&clinic[0], [0, 0, 80, 0, 17]), Ok(Some(0)), none);
+    cases.same(looked_up(&clinic[0], [0, 0, 0, 0, 47]), Ok(Some(1)), none);
+    let crossed = vec![entry(ALL, DISCARD), entry(only(4, 5, 4), DISCARD)];
+    cases.same(looked_up(&crossed, [0, 0, 80, 0, 47]), Err(Refusal::Crossed(1)), none);
+
+    // Pairs that match no header are dropped before the working list is counted.
+    for crowd in &CROWDS[CROWDS.len() - 2..] {
+        let lists: Vec<List> = crowd.iter().map(|(f, n)| single_ports(*f, *n)).collect();
+        let lists: Vec<&[Entry]> = lists.iter().map(|list| &list[..]).collect();
+        cases.same(model::working_list(&lists).map(|list| list.len()), Ok(256), none);
+    }
+}
+
+/// How often it mattered what a header is.
+#[derive(Default, Debug)]
+struct Apart {
+    /// Lists that match all headers and not all combinations.
+    covering: usize,
+    /// Entries that match no header.
+    headerless: usize,
+    /// Searches that would find an earlier combination.
+    searches: usize,
+    /// Lookups of no header that some entry matches.
+    lookups: usize,
+    /// Lists that merge, though some combination has no action in common.
+    merged: usize,
+    /// Conflicts at another header than the least such combination.
+    conflicts: usize,
+}
+
+/// What the first entry that matches allows, header or not.
+fn matched(list: &[Entry], h: &Header) -> Option<u16> {
+    list.iter().find(|e| holds(&e.selector, h)).map(|e| e.actions)
+}
+
+/// The least combination without an action in common.
+fn least_clash(lists: &[List], all: &[Header]) -> Option<Header> {
+    let common = |h: &Header| {
+        let sets = lists.iter().map(|list| matched(list, h).unwrap_or(0));
+        sets.fold(0xffff, |common, set| common & set)
+    };
+    all.iter().copied().find(|h| common(h) == 0)
+}
+
+/// The cells against the points: gaps, searches, lookups and whole mergings.
 fn small_spaces(cases: &mut Cases, wanted: usize) {
-    let points = points();
+    let (points, all) = (points(), combinations());
     let mut random = Random::new(1);
     let mut answers = [0usize; 4];
+    let mut apart = Apart::default();
     while cases.count < wanted {
         let sets = *random.pick(&[Sets::Any, Sets::With(4), Sets::OneOf(6, 12), Sets::OneOf(5, 6)]);
         let mut lists = vec![];
@@ -121,12 +194,22 @@ fn small_spaces(cases: &mut Cases, wanted: usize) {
                 None => Ok(()),
             };
             cases.same(model::gap(&list), gap, || format!("gap of {list:?}"));
-            search(cases, &list, &points, &mut random);
+            search(cases, &list, &points, &all, &mut apart, &mut random);
+            lookup(cases, &list, *random.pick(&all), &points, &mut apart);
+            let matches_none = |e: &&Entry| !points.iter().any(|h| holds(&e.selector, h));
+            apart.headerless += list.iter().filter(matches_none).count();
             if gap.is_ok() {
+                apart.covering += all.iter().any(|h| matched(&list, h).is_none()) as usize;
                 lists.push(list);
             }
         }
         let expected = merged(&lists, &points);
+        let clash = least_clash(&lists, &all);
+        match &expected {
+            Ok(_) => apart.merged += clash.is_some() as usize,
+            Err(Refusal::Conflict(h)) => apart.conflicts += (clash != Some(*h)) as usize,
+            Err(_) => {}
+        }
         answers[match &expected {
             Ok(_) => 0,
             Err(Refusal::Conflict(_)) => 1,
@@ -139,29 +222,53 @@ fn small_spaces(cases: &mut Cases, wanted: usize) {
         "  small mergings: {} merged, {} conflicts, {} crowded, {} bare",
         answers[0], answers[1], answers[2], answers[3]
     );
+    println!("  where it mattered what a header is: {apart:?}");
+    let Apart { covering, headerless, searches, lookups, merged, conflicts } = apart;
+    let counts = [covering, headerless, searches, lookups, merged, conflicts];
+    assert!(counts.iter().all(|count| *count > 0), "some case was never met");
 }
 
-fn search(cases: &mut Cases, list: &List, points: &[[u32; 5]], random: &mut Random) {
-    let mut within = box_near(&small_list(4, Sets::Any, random), random);
-    for f in 0..5 {
-        // The box's own ends have to lie between the points' cells as well.
-        within.low[f] = within.low[f].min(3);
-        within.high[f] = if within.high[f] < 3 { within.high[f] } else { ALL.high[f] };
-    }
+fn search(
+    cases: &mut Cases,
+    list: &List,
+    points: &[Header],
+    all: &[Header],
+    apart: &mut Apart,
+    random: &mut Random,
+) {
+    // The box's own ends have to lie between the points' cells as well.
+    let within = small_box(&box_near(&small_list(4, Sets::Any, random), random));
     let want = match random.below(3) {
         0 => Want::Uncaught,
         1 => Want::CaughtBy(random.below(8) as usize),
         _ => Want::Differing(*random.pick(&[0, 1, 4, 5, 6, 12])),
     };
-    let wanted = |h: &[u32; 5]| match want {
-        Want::Uncaught => model::catching(list, h).is_none(),
-        Want::CaughtBy(i) => model::catching(list, h) == Some(i),
-        Want::Differing(set) => model::allowed(list, h) != Some(set),
+    let first = |h: &Header| list.iter().position(|e| holds(&e.selector, h));
+    let wanted = |h: &&Header| match want {
+        Want::Uncaught => first(h).is_none(),
+        Want::CaughtBy(i) => first(h) == Some(i),
+        Want::Differing(set) => matched(list, h) != Some(set),
     };
-    let expected = points.iter().copied().find(|h| model::holds(&within, h) && wanted(h));
+    let find = |among: &[Header]| among.iter().filter(wanted).find(|h| holds(&within, h)).copied();
+    let expected = find(points);
+    apart.searches += (find(all) != expected) as usize;
     cases.same(model::search(&file(list), &within, want), Ok(expected), || {
         format!("{want:?} in {within:?} of {list:?}")
     });
+}
+
+/// Lookup of a combination in a file, as a part of it and in a table.
+fn lookup(cases: &mut Cases, list: &List, h: Header, points: &[Header], apart: &mut Apart) {
+    let first = list.iter().position(|e| holds(&e.selector, &h));
+    let expected = first.filter(|_| points.contains(&h));
+    apart.lookups += (first != expected) as usize;
+    let case = || format!("lookup of {h:?} in {list:?}");
+    let bytes = file(list);
+    cases.same(model::lookup(&bytes, &h), Ok(expected), case);
+    cases.same(model::lookup_in_table(list, &h), expected, case);
+    cases.same(model::lookup_number(&bytes, &h) as usize, expected.unwrap_or(256), case);
+    let part = expected.map_or((0, 0), |i| (5 + 28 * i, 28));
+    cases.same(model::lookup_part(&bytes, &h), part, case);
 }
 
 /// What is in force, told from the history of the calls: each party's last accepted filing that
@@ -267,11 +374,12 @@ fn replays(cases: &mut Cases, wanted: usize) {
 
 fn main() {
     let mut cases = Cases::new("model_test", 600);
-    let wanted = Cases::wanted(20_000);
+    let wanted = Cases::wanted(60_000);
     examples(&mut cases);
+    ports_where_there_are_ports(&mut cases);
     small_spaces(&mut cases, wanted);
-    histories(&mut cases, wanted / 4);
-    round_trips(&mut cases, wanted / 20);
-    replays(&mut cases, wanted / 100);
-    cases.done("cells, points, histories and 01's examples agree");
+    histories(&mut cases, wanted / 12);
+    round_trips(&mut cases, wanted / 60);
+    replays(&mut cases, wanted / 300);
+    cases.done("cells, points, histories and the documents' examples agree");
 }

@@ -3,7 +3,8 @@
 //! a list can be looked at again by itself, and nothing has to be met.
 
 use outside::calls::call_list;
-use outside::entry::{file, Entry, ALL};
+use outside::entry::{file, is_header, Entry, Header, ALL};
+use outside::model::{holds, is_crossed, least_header, read, LIST_LIMIT};
 use outside::process::{run, Run};
 use outside::random::Random;
 use outside::replay::{
@@ -30,17 +31,17 @@ const CALLS: [(u8, &str, &str); 13] = [
     ),
     (4, "rewrite", "ok exact, ok longer, no 1, no 2, no 3, no 4, no 11 one short, no 11 short"),
     (5, "write", "ok exact, ok longer, no 3, no 4, no 11 one short, no 11 short"),
-    (6, "lookup", "ok entry, ok uncaught, no 1, no 2, no 3, no 4"),
-    (7, "lookup of the part", "ok 0, ok 28"),
-    (8, "lookup in a table", "ok entry, ok entry past 255, ok uncaught"),
+    (6, "lookup", "ok entry, ok uncaught, ok no header, no 1, no 2, no 3, no 4"),
+    (7, "lookup of the part", "ok 0, ok 28, ok no header"),
+    (8, "lookup in a table", "ok entry, ok entry past 255, ok uncaught, ok no header"),
     (
         9,
         "compare",
         "ok refines, ok header, no 1 1, no 1 2, no 1 3, no 1 4, no 1 5, no 2 1, no 2 2, no 2 3, \
          no 2 4, no 2 5",
     ),
-    (10, "search", "ok none, ok header, no 1, no 2, no 3, no 4"),
-    (19, "lookup in C", "ok entry, ok 256, ok 257, ok 258, ok 259, ok 260"),
+    (10, "search", "ok none, ok header, ok no header, no 1, no 2, no 3, no 4"),
+    (19, "lookup in C", "ok entry, ok 256, ok no header, ok 257, ok 258, ok 259, ok 260"),
     (
         20,
         "compare in C",
@@ -56,6 +57,27 @@ fn fit(lent: usize, needed: usize) -> &'static str {
         Ordering::Greater => "longer",
         Ordering::Less if lent + 1 == needed => "one short",
         Ordering::Less => "short",
+    }
+}
+
+/// Whether a good file's lookup is of no header, though an entry's ranges hold its numbers; or a search
+/// is in a box that holds combinations and no header.
+fn is_beside_headers(call: &Call) -> bool {
+    let held =
+        |list: &[Entry], h: &Header| !is_header(h) && list.iter().any(|e| holds(&e.selector, h));
+    match call {
+        Call::Lookup { file, header }
+        | Call::LookupPart { file, header }
+        | Call::LookupInC { file, header } => {
+            read(&file.0, LIST_LIMIT).is_ok_and(|list| held(&list, header))
+        }
+        Call::LookupInTable { table, header } => held(table, header),
+        Call::Search { file, within, .. } => {
+            read(&file.0, LIST_LIMIT).is_ok()
+                && !is_crossed(within)
+                && least_header(within).is_none()
+        }
+        _ => false,
     }
 }
 
@@ -106,12 +128,17 @@ struct Account {
 
 impl Account {
     fn count(&mut self, call: Option<Call>, line: &str) {
-        let Some(call) = call.map(|call| call.number()) else {
+        let Some(call) = call else {
             self.bad += 1;
             return;
         };
         self.calls += 1;
-        *self.met.entry(call).or_default().entry(kind(call, line)).or_default() += 1;
+        let number = call.number();
+        let kind = match is_beside_headers(&call) {
+            true => "ok no header".to_string(),
+            false => kind(number, line),
+        };
+        *self.met.entry(number).or_default().entry(kind).or_default() += 1;
     }
 
     /// Prints what was met; answers what never was.
@@ -188,7 +215,7 @@ fn one_of_each() -> Vec<Call> {
     let list = vec![Entry { selector: ALL, actions: 3 }];
     let bytes = Bytes(file(&list));
     let buffer = Buffer { length: 35, fill: 0xa5 };
-    let header = [1, 2, 3, 4, 5];
+    let header = [1, 2, 3, 4, 6];
     vec![
         Call::Open,
         Call::File { party: 1, file: bytes.clone() },
@@ -265,7 +292,10 @@ fn limits(test: &mut Test) {
     // A file's length is right but for 65,536 bytes more.
     let mut longer = file(&[Entry { selector: ALL, actions: 1 }]);
     longer.resize(longer.len() + 65_536, 0);
-    test.check("a file and 64 KB", &opened(&[Call::Lookup { file: Bytes(longer), header: [0; 5] }]));
+    test.check(
+        "a file and 64 KB",
+        &opened(&[Call::Lookup { file: Bytes(longer), header: [0; 5] }]),
+    );
     let mut cut = vec![0; LONGEST_INPUT];
     cut[LONGEST_INPUT - 1] = 2;
     test.check("a long list, cut short", &cut);

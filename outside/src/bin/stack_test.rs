@@ -7,7 +7,7 @@
 //! stack_test merging: stack of filing and merging, where libmeasured.a is linked.
 
 use outside::deep::{self, families, Family, Pair};
-use outside::entry::{file, Entry, List, FIELDS, TOP};
+use outside::entry::{file, Entry, List, FIELDS, LAST_HEADER, TOP};
 use outside::gateway;
 use outside::page::count;
 use outside::product::product;
@@ -69,7 +69,7 @@ fn measure_lookups(stack: &mut Painted, families: &[Family]) -> usize {
     let files = families.iter().flat_map(|family| &family.pairs).map(|pair| &pair.0);
     let used = files.map(|file| {
         stack.used(&mut || {
-            black_box(gateway::lookup(file, &TOP));
+            black_box(gateway::lookup(file, &LAST_HEADER));
         })
     });
     let most = used.max().expect("some files");

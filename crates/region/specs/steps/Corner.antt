@@ -13,7 +13,7 @@ use Rattle.policy.specs.declared.entry.Entry.{Entry}
 use Rattle.policy.specs.Row.{Row}
 use Rattle.policy.specs.Box.{Range, inside, proper, meet}
 use Rattle.policy.specs.steps.Boxes.{lows}
-use Rattle.policy.specs.Header.{arity, header, before, Box, lies, Headers, among, headers}
+use Rattle.policy.specs.Header.{arity, header, before, Box, lies, headers}
 use Rattle.policy.specs.steps.Findings.{lesser}
 use Rattle.policy.specs.Least.{leastIn}
 use Rattle.policy.specs.Entry.{selector}
@@ -28,10 +28,6 @@ use Rattle.region.specs.declared.pick.Picked.the-variants.{Held, Free, C
 abbrev pub improves : Header → Found → Bool
 improves h Nothing = true
 improves h (At g) = before h g
-
--- every header-shaped row of the box is a header of the set
-abbrev pub Within : Headers → Box → Type 0
-Within hs b = (h : Header) → lies b h ≡ true → among hs h ≡ true
 
 -- the box s holds the low corner of b
 abbrev pub holdsCorner : Box → Box → Bool

@@ -1,7 +1,7 @@
 //! Lookup: the entry's number and the record's part in a file, and in a table of decoded entries.
 
 use outside::baseline::{lookup, lookup_unpacked, unpack, Unpacked};
-use outside::entry::{file, Header, List};
+use outside::entry::{file, is_header, Header, List};
 use outside::generate::{header_near, realistic_list, Sets};
 use outside::model::catching;
 use outside::page::{maybe_time, ratio, Table};
@@ -10,7 +10,7 @@ use outside::random::Random;
 
 use crate::findings::{Page, Target};
 use crate::growth::Growth;
-use crate::rows::{kept, Row};
+use crate::rows::{kept, Row, Tried};
 use crate::times::{each, Job, BYTES};
 
 static RATIO: Target = Target { words: "lookup: at most 1.2 times Rust over the bytes", most: 1.2 };
@@ -24,7 +24,8 @@ const SIZES: [usize; 5] = [10, 32, 64, 128, 256];
 /// Headers at and beside the ends of the list's ranges: 64 of any, or of 2,000 those caught last.
 fn headers_for(list: &List, last: bool, random: &mut Random) -> Vec<Header> {
     let tried = if last { 2_000 } else { 64 };
-    let mut headers: Vec<Header> = (0..tried).map(|_| header_near(list, random)).collect();
+    let near = std::iter::repeat_with(|| header_near(list, random));
+    let mut headers: Vec<Header> = near.filter(is_header).take(tried).collect();
     headers.sort_by_key(|h| if last { list.len() - catching(list, h).unwrap_or(0) } else { 0 });
     headers.truncate(64);
     headers
@@ -221,7 +222,8 @@ pub fn rows(product: &Product) -> Vec<Row> {
         let inputs = Inputs { bytes, entries, headers: kept(headers) };
         for (kind, job) in KINDS.iter().zip(product_lookups(product, inputs)) {
             let each = inputs.headers.len();
-            rows.extend(job.map(|job| Row::new(kind.job, name.clone(), each, job)));
+            let row = |job| Row::new(kind.job, name.clone(), each, Tried::new(true, job));
+            rows.extend(job.map(row));
         }
     }
     rows

@@ -11,7 +11,7 @@ use outside::random::Random;
 
 use crate::findings::{Page, Target};
 use crate::growth::Growth;
-use crate::rows::{kept, Row};
+use crate::rows::{kept, Row, Tried};
 use crate::search::name_of;
 use crate::times::{head, Job, Times, STATES};
 
@@ -28,20 +28,22 @@ static RELATED: Target = Target {
 static WORST: Target =
     Target { words: "merging of the worst inputs of filed size: under 500 ms", most: 500.0 };
 
-/// The product's merging; its answer and what it writes are the expected ones.
-fn product_merge<'a>(product: &Product, input: &'a [u8]) -> Option<impl FnMut() -> u64 + 'a> {
+/// The product's merging; its answer and what it writes are held against the expected ones.
+fn product_merge<'a>(
+    product: &Product,
+    input: &'a [u8],
+) -> Option<Tried<impl FnMut() -> u64 + 'a>> {
     let (mut buffer, mut expected) = (vec![0; 7173], vec![0; 7173]);
     let answer = baseline::merge_input(input, &mut expected, Form::Packed, &mut 0);
     product.merge.map(|merge| {
-        assert_eq!(merge(input, &mut buffer), answer);
-        assert_eq!(buffer, expected);
-        move || merge(input, &mut buffer) as u64
+        let is_right = merge(input, &mut buffer) == answer && buffer == expected;
+        Tried::new(is_right, move || merge(input, &mut buffer) as u64)
     })
 }
 
 fn merge_times(product: &Product, input: &[u8]) -> (u32, u64, Times) {
     let (answer, boxes) = merge_boxes(input);
-    let mut ours = product_merge(product, input);
+    let mut ours = product_merge(product, input).map(Tried::right);
     let (mut one, mut other) = (vec![0; 7173], vec![0; 7173]);
     let times = Times::of(
         ours.as_mut().map(|job| job as Job),
@@ -154,7 +156,7 @@ pub fn growth(growth: &mut Growth, product: &Product) {
     let inputs = sizes.map(|n| hardest_merging(|random| related_filings(8, n, 1, random)));
     let mut jobs = vec![];
     for input in &inputs {
-        let ours = product_merge(product, input);
+        let ours = product_merge(product, input).map(Tried::right);
         let mut buffer = vec![0; 7173];
         jobs.push((ours, move || {
             baseline::merge_input(input, &mut buffer, Form::Packed, &mut 0) as u64

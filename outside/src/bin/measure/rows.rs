@@ -5,6 +5,25 @@ use outside::clock::{batch, calls_for};
 use outside::product::Product;
 use std::io::Write;
 
+/// A call of the product, and whether its answer is the Rust version's. An earlier archive may answer
+/// otherwise, and can be timed all the same.
+pub struct Tried<C> {
+    call: C,
+    is_right: bool,
+}
+
+impl<C> Tried<C> {
+    pub fn new(is_right: bool, call: C) -> Tried<C> {
+        Tried { call, is_right }
+    }
+
+    /// The call, whose answer is right.
+    pub fn right(self) -> C {
+        assert!(self.is_right, "the product answers otherwise than the Rust version");
+        self.call
+    }
+}
+
 /// A job of the product.
 pub struct Row {
     job: &'static str,
@@ -12,6 +31,7 @@ pub struct Row {
     /// How many of the things that are timed one call does.
     each: usize,
     call: Box<dyn FnMut() -> u64>,
+    is_right: bool,
 }
 
 impl Row {
@@ -19,9 +39,9 @@ impl Row {
         job: &'static str,
         name: String,
         each: usize,
-        call: impl FnMut() -> u64 + 'static,
+        tried: Tried<impl FnMut() -> u64 + 'static>,
     ) -> Row {
-        Row { job, name, each, call: Box::new(call) }
+        Row { job, name, each, call: Box::new(tried.call), is_right: tried.is_right }
     }
 }
 
@@ -30,7 +50,7 @@ pub fn kept<T>(input: Vec<T>) -> &'static [T] {
     input.leak()
 }
 
-/// Prints a line for each row, then an empty one; then for each line of input, which holds a row's
+/// Prints a line for each row, with whether its answer is right, then an empty one; then for each line of input, which holds a row's
 /// number, the nanoseconds that one call takes.
 pub fn answer(product: &Product) {
     let mut rows = crate::search::rows(product);
@@ -38,7 +58,7 @@ pub fn answer(product: &Product) {
     rows.extend(crate::lookup::rows(product));
     rows.extend(crate::merging::rows(product));
     for row in &rows {
-        println!("{}\t{}", row.job, row.name);
+        println!("{}\t{}\t{}", row.job, row.name, if row.is_right { "right" } else { "other" });
     }
     println!();
     let mut calls: Vec<usize> = vec![0; rows.len()];

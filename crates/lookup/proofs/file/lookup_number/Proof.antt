@@ -11,8 +11,8 @@ check-file-requires c κs = search needs
 enum-known-n : tie.Need-enum-known-n
 enum-known-n c = search needs
 
-first-match-requires : tie.Need-first-match-requires
-first-match-requires c κs = search good-room
+first-header-match-requires : tie.Need-first-header-match-requires
+first-header-match-requires c κs = search good-room
 
 enum-known-i : tie.Need-enum-known-i
 enum-known-i c = search needs
@@ -38,7 +38,7 @@ lookup-number-spec =
     (tie.spec
     check-file-requires
     enum-known-n
-    first-match-requires
+    first-header-match-requires
     enum-known-i
     enum-told
     enum-known-r

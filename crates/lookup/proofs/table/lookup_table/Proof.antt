@@ -1,7 +1,7 @@
 -- `lookup_table` meets its contract: a walk of its code by hand, since a slice of structs is not covered by the borrow checker.
--- Before each turn of the loop no entry before i matches the header (`Passed`). A turn reads entry i through the lent slice and asks
--- `policy::entry::matches_header` of it: a match is the answer (`matched`), a miss carries the invariant on to i + 1 (`unmatched`), and at the
--- table's end nothing catches the header (`ended`).
+-- Before each turn of the loop no entry before i matches the header (`HeaderPassed`). A turn reads entry i through the lent slice and asks
+-- `policy::entry::catches_header` of it: a match of a header is the answer (`header-matched`), a miss carries the invariant on to i + 1 (`header-unmatched`), and at the
+-- table's end nothing catches the header (`header-ended`).
 -- Assumes nothing.
 use mathlib.Core.Path.{_≡_, refl, sym, ap, _∙_}
 use Prim.Native.Nat.{ℕ, _+_, _-_, _*_, _≤_, _<_, _^_, zero-le}
@@ -9,7 +9,7 @@ use native.Mathlib.Nat.{lt-of-le-of-lt}
 use native.Mathlib.Numerals.{add-one-le, add-one-dec}
 use native.Mathlib.Omega.{arith}
 use mathlib.Core.WellFounded.{WellFounded, InvImage·wf}
-use mathlib.Core.Bool.{Bool, true, false, not}
+use mathlib.Core.Bool.{Bool, true, false, not, _&&_}
 use mathlib.Core.List.{List, [], _∷_}
 use lib.WfN.{Nat·lt-wfRel}
 use lib.Dec.{T, ltb, ltb→lt, nltb→le, lit<}
@@ -58,7 +58,7 @@ use Rattle.policy.specs.declared.entry.Entry.{Entry}
 use Rattle.policy.specs.declared.entry.Caught.{Caught}
 use Rattle.policy.specs.declared.entry.Caught.the-variants.{By, Uncaught}
 use Rattle.policy.specs.Entry.{matches}
-use Rattle.policy.specs.Policy.{catcher}
+use Rattle.policy.specs.Header.{among, headers}
 use Rattle.lookup.specs.Lookup.{caughtAnswer, tableLookupOf}
 use Rattle.wire.specs.Lists.{emptyEntry}
 use Rattle.policy.proofs.entry.Entry as TEntry
@@ -67,11 +67,11 @@ use Rattle.policy.proofs.header.Header as THeader
 use Rattle.policy.proofs.header.Header.Laws as THeader′
 use Rattle.policy.proofs.entry.Caught as TCaught
 use Rattle.policy.proofs.entry.Caught.Laws as TCaught′
-use Rattle.policy.proofs.entry.matches_header as matcher
-use Rattle.policy.proofs.entry.matches_header.Symbol as matcher-def
-use Rattle.policy.proofs.entry.matches_header.Symbol.{name as #policy·entry·matches-header}
-use Rattle.policy.proofs.entry.matches_header.Met as matcher-thm
-use Rattle.lookup.proofs.FirstMatch.{Passed, matched, unmatched, ended}
+use Rattle.policy.proofs.entry.catches_header as matcher
+use Rattle.policy.proofs.entry.catches_header.Symbol as matcher-def
+use Rattle.policy.proofs.entry.catches_header.Symbol.{name as #policy·entry·catches-header}
+use Rattle.policy.proofs.entry.catches_header.Met as matcher-thm
+use Rattle.lookup.proofs.TableLookup.{HeaderPassed, header-matched, header-unmatched, header-ended}
 use Rattle.lookup.proofs.table.lookup_table.Key.{name as #lookup·table·lookup-table}
 use Rattle.lookup.proofs.table.lookup_table as this
 use Rattle.lookup.proofs.table.lookup_table.Statement as stated
@@ -155,15 +155,15 @@ is-false false t = refl
 abbrev stayed : Stays (this.ended .signature .params) (this.ended .kept)
 stayed = (stay-none-slice (0 ∷ []) tt (plain (λ _. R)) yes, (stay-none (λ _. THeader.the-row) yes, tt))
 
--- ---- the contract of `matches_header`
+-- ---- the contract of `catches_header`
 
 module _ {M : Type 1} (𝓤 : URA M) (H : Heap 𝓤) (A : Atoms 𝓤) (mem : Memory → SProp 𝓤) (run : Routine → Fun 𝓤) where
   abbrev Matcher : Contract 𝓤
   Matcher = tripleOf 𝓤 H A matcher.signature (matcher.spec 𝓤 H A mem run)
 
   -- what it ensures
-  says-match : (e : Entry) (h : Header) (r : Bool) → ent 𝓤 (ensured 𝓤 H A matcher.ended (matcher.clauses 𝓤 H A mem run) tt (e, (h, tt)) tt r) (fact 𝓤 (r ≡ matches e h))
-  says-match e h r = exE 𝓤 _ (λ ws. snd∗ 𝓤 (sem 𝓤 H A (lasts matcher.ended tt (e, (h, tt)) ws)) (fact 𝓤 (r ≡ matches e h)))
+  says-match : (e : Entry) (h : Header) (r : Bool) → ent 𝓤 (ensured 𝓤 H A matcher.ended (matcher.clauses 𝓤 H A mem run) tt (e, (h, tt)) tt r) (fact 𝓤 (r ≡ (matches e h && among headers h)))
+  says-match e h r = exE 𝓤 _ (λ ws. snd∗ 𝓤 (sem 𝓤 H A (lasts matcher.ended tt (e, (h, tt)) ws)) (fact 𝓤 (r ≡ (matches e h && among headers h))))
 
 -- ---- the walk, over a table p that lies at (b, o) and is lent for κ, and a header h
 
@@ -206,7 +206,7 @@ module _ {M : Type 1} (𝓤 : URA M) (H : Heap 𝓤) (A : Atoms 𝓤) (W : Given
 
   -- the loop's invariant: no entry before i matches h; and its measure, the entries that are left
   abbrev Upto : Type 0
-  Upto = (i : ℕ) × ((i ≤ length p) × Passed p h i)
+  Upto = (i : ℕ) × ((i ≤ length p) × HeaderPassed p h i)
 
   abbrev Nearer : Upto → Upto → Type 0
   Nearer j i = length p - j .0 < length p - i .0
@@ -224,7 +224,7 @@ module _ {M : Type 1} (𝓤 : URA M) (H : Heap 𝓤) (A : Atoms 𝓤) (W : Given
   abbrev Own : ℕ → Fml
   Own i = R .own (elem i) (elemVal i ∷ [])
 
-  -- the call of `matches_header` on entry i and h
+  -- the call of `catches_header` on entry i and h
   abbrev asked : ℕ → Matcher 𝓤 H A mem run .Ghost
   asked i = ((tt, tt, tt, (elem i, (h, tt)), (elemVal i ∷ [], (hv ∷ [], tt))), tt)
 
@@ -233,7 +233,7 @@ module _ {M : Type 1} (𝓤 : URA M) (H : Heap 𝓤) (A : Atoms 𝓤) (W : Given
 
   -- the locals: _0 the answer, _1 the table, _2 the header, _3 i, _4 the length and then where entry i starts, _5 whether i is below the length,
   -- _6 whether entry i matches, _7 the pointer to entry i, _8 entry i
-  module _ (𝓣 : Tables 𝓤 H) (fm : FmC 𝓤 H (W .laws) (𝓣 .C)) (known : Triple 𝓤 (𝓣 .C #policy·entry·matches-header) (Matcher 𝓤 H A mem run)) (l₀ l₁ l₂ l₃ l₄ l₅ l₆ l₇ l₈ : ℕ) where
+  module _ (𝓣 : Tables 𝓤 H) (fm : FmC 𝓤 H (W .laws) (𝓣 .C)) (known : Triple 𝓤 (𝓣 .C #policy·entry·catches-header) (Matcher 𝓤 H A mem run)) (l₀ l₁ l₂ l₃ l₄ l₅ l₆ l₇ l₈ : ℕ) where
     abbrev C : Calls 𝓤 H
     C = 𝓣 .C
 
@@ -288,10 +288,10 @@ module _ {M : Type 1} (𝓤 : URA M) (H : Heap 𝓤) (A : Atoms 𝓤) (W : Given
         -- a header is Copy: one goes with entry i into the call
         move ! (3 ∷ []) $ use1 W (‵ Hs ⊛ ‵ Hs) (StructLaws.copy THeader.the-type THeader′.the-copy 𝓤 H A W .twice h (hv ∷ [])) $ split ! $ move ! (3 ∷ 0 ∷ []) $ use2 W (raw (Matcher 𝓤 H A mem run .pre (asked (i .0)))) (may-ask (i .0)) $
         -- held: [what the call asks; the header's; the token; S; _8; ..; _0]
-        -- _6 = matches_header(_8, h), which is r with r ≡ matches (elem i) h
+        -- _6 = catches_header(_8, h), which is r with r ≡ (matches (elem i) h && among headers h)
         calls-at ! fm (Matcher 𝓤 H A mem run) known (asked (i .0)) (and-then ! (load ! (from ! (stop !)) (look ! 4 refl)) (and-then ! (load ! (from ! (stop !)) (look ! 16 refl)) (no-more !))) (λ v.
         use1 W (later (some (λ (r : Bool). (‵ ftrue ⊛ ‵ (Boolean .own r (v ∷ []))) ⊛ raw (ensured 𝓤 H A matcher.ended (matcher.clauses 𝓤 H A mem run) tt (elem (i .0), (h, tt)) tt r)))) (id⊢ 𝓤 _) $ await ! tt $ pick ! (λ r.
-        split ! $ move ! (1 ∷ []) $ use1 W (raw (fact 𝓤 (r ≡ matches (elem (i .0)) h))) (says-match 𝓤 H A mem run (elem (i .0)) h r) $ heard ! (r ≡ matches (elem (i .0)) h) (λ e. split ! $ drop ! $
+        split ! $ move ! (1 ∷ []) $ use1 W (raw (fact 𝓤 (r ≡ (matches (elem (i .0)) h && among headers h)))) (says-match 𝓤 H A mem run (elem (i .0)) h r) $ heard ! (r ≡ (matches (elem (i .0)) h && among headers h)) (λ e. split ! $ drop ! $
         peeks ! Boolean (Is Boolean) (shows 𝓤 H A Boolean) r (v ∷ []) (λ is.
         land ! (from ! (stop !)) (init ! 8 refl (bool-lawful 𝓤 H A W .typed r _ is .0)) $ drop ! $ move ! (1 ∷ 2 ∷ 0 ∷ []) $
         rewrite ! 7 (λ (u : Val). ‵ (fat fullShare tyBool l₆ 0 u)) (ap firstVal is) refl $
@@ -301,7 +301,7 @@ module _ {M : Type 1} (𝓤 : URA M) (H : Heap 𝓤) (A : Atoms 𝓤) (W : Given
         (λ hit. assigns ! (agg ! (and-then ! (lit ! tt) (and-then ! (load ! (from ! (stop !)) (look ! 13 refl)) (no-more !)))) (from ! (stop !))
         (init ! 19 refl (EnumLaws.lawful TCaught.the-type TCaught′.the-laws 𝓤 H A W tt .typed (By (i .0)) (val (By (i .0)) ∷ []) (made-by (i .0) (fits i)) .0)) $
         returns-within ! Post refl (look ! 19 refl) $ forget ! 3 refl $ forget ! 5 refl $ forget ! 7 refl $ forget ! 9 refl $ forget ! 11 refl $ forget ! 13 refl $ forget ! 15 refl $ forget ! 17 refl $ forget ! 19 refl $
-        frees-all (By (i .0)) (made-by (i .0) (fits i)) (ap caughtAnswer (matched p h (i .0) emptyEntry (elem (i .0)) (below less) refl (i .1 .1) (sym e ∙ is-true r hit))))
+        frees-all (By (i .0)) (made-by (i .0) (fits i)) (ap caughtAnswer (header-matched p h (i .0) emptyEntry (elem (i .0)) (below less) refl (i .1 .1) (sym e ∙ is-true r hit))))
         -- it does not: i += 1, and the next turn
         (λ miss. skips ! $ exec ! C Λ En step (anyQ (Turned i)) $
         assigns-last ! (bin ! (load ! (from ! (stop !)) (look ! 13 refl)) (lit ! tt) (record { fits = fits (next less r e miss) })) (from ! (stop !)) (store ! 13 refl (tt, record { fits = fits (next less r e miss) })) $
@@ -311,7 +311,7 @@ module _ {M : Type 1} (𝓤 : URA M) (H : Heap 𝓤) (A : Atoms 𝓤) (W : Given
         (λ over. jumps ! $ exec ! C Λ En rest (atRet En Post) $
         assigns ! (agg ! (and-then ! (lit ! tt) (no-more !))) (from ! (stop !)) (init ! 19 refl (EnumLaws.lawful TCaught.the-type TCaught′.the-laws 𝓤 H A W tt .typed Uncaught (val Uncaught ∷ []) made-uncaught .0)) $
         returns ! (look ! 19 refl) $ forget ! 9 refl $ forget ! 11 refl $ forget ! 13 refl $ forget ! 15 refl $ forget ! 17 refl $ forget ! 19 refl $
-        frees-all Uncaught made-uncaught (ap caughtAnswer (ended p h (i .0) (nltb→le (i .0) (length p) over) (i .1 .1))))
+        frees-all Uncaught made-uncaught (ap caughtAnswer (header-ended p h (i .0) (nltb→le (i .0) (length p) over) (i .1 .1))))
       where
         fits : (j : Upto) → j .0 < 2 ^ 64
         fits j = lt-of-le-of-lt (j .1 .0) (room .0)
@@ -322,11 +322,11 @@ module _ {M : Type 1} (𝓤 : URA M) (H : Heap 𝓤) (A : Atoms 𝓤) (W : Given
         scaled : T (ltb (i .0) (length p)) → i .0 * 28 < 2 ^ 64
         scaled less = let l : i .0 < length p = below less in let most : length p * 28 < 2 ^ 63 = room .1 in omega arith
 
-        next : T (ltb (i .0) (length p)) → (r : Bool) → r ≡ matches (elem (i .0)) h → T (not r) → Upto
-        next less r e miss = (i .0 + 1, (add-one-le (below less), unmatched p h (i .0) emptyEntry (elem (i .0)) (below less) refl (i .1 .1) (sym e ∙ is-false r miss)))
+        next : T (ltb (i .0) (length p)) → (r : Bool) → r ≡ (matches (elem (i .0)) h && among headers h) → T (not r) → Upto
+        next less r e miss = (i .0 + 1, (add-one-le (below less), header-unmatched p h (i .0) emptyEntry (elem (i .0)) (below less) refl (i .1 .1) (sym e ∙ is-false r miss)))
 
   -- the whole body: the locals are allocated, the arguments passed, i = 0, and the loop
-  walk : Is THeader.the-row h (hv ∷ []) → (𝓣 : Tables 𝓤 H) → FmC 𝓤 H (W .laws) (𝓣 .C) → Triple 𝓤 (𝓣 .C #policy·entry·matches-header) (Matcher 𝓤 H A mem run)
+  walk : Is THeader.the-row h (hv ∷ []) → (𝓣 : Tables 𝓤 H) → FmC 𝓤 H (W .laws) (𝓣 .C) → Triple 𝓤 (𝓣 .C #policy·entry·catches-header) (Matcher 𝓤 H A mem run)
       → ent 𝓤 (onEntry 𝓤 H A this.signature (κ, tt) (q, tt) x vals) (WpFn 𝓤 H (𝓣 .C) (𝓣 .Λ) code.function (sliceVal (b, o) (length p) ∷ hv ∷ []) Post)
   walk gh 𝓣 fm known =
       qed W ((‵ (flft κ q) ⊛ ‵ ftrue) ∷ ‵ (owns (ShrSlice (named 0) κ R ∷ THeader.the-row ∷ []) x vals) ∷ []) ∵ enter ! (𝓣 .C) (𝓣 .Λ) code.function (sliceVal (b, o) (length p) ∷ hv ∷ []) _ $
@@ -341,12 +341,12 @@ module _ {M : Type 1} (𝓤 : URA M) (H : Heap 𝓤) (A : Atoms 𝓤) (W : Given
 -- ---- the walk is what the statement asks for
 
 module _ {M : Type 1} (𝓤 : URA M) (H : Heap 𝓤) (A : Atoms 𝓤) (W : Given 𝓤 H A) (mem : Memory → SProp 𝓤) (run : Routine → Fun 𝓤) (𝓣 : Tables 𝓤 H) where
-  lookup-walks : FmC 𝓤 H (W .laws) (𝓣 .C) → Triple 𝓤 (𝓣 .C #policy·entry·matches-header) (Matcher 𝓤 H A mem run) → Walks 𝓤 H A this.ended stayed (WpFn 𝓤 H (𝓣 .C) (𝓣 .Λ) code.function) (this.clauses 𝓤 H A mem run)
+  lookup-walks : FmC 𝓤 H (W .laws) (𝓣 .C) → Triple 𝓤 (𝓣 .C #policy·entry·catches-header) (Matcher 𝓤 H A mem run) → Walks 𝓤 H A this.ended stayed (WpFn 𝓤 H (𝓣 .C) (𝓣 .Λ) code.function) (this.clauses 𝓤 H A mem run)
   lookup-walks fm known = walked 𝓤 H A this.ended stayed (this.clauses 𝓤 H A mem run) (WpFn 𝓤 H (𝓣 .C) (𝓣 .Λ) code.function) (λ κs. (slice-vals, (StructLaws.vals THeader.the-type THeader′.the-laws, tt))) (λ κs. (shr-slice-tells (named 0) (κs .0) R, (StructLaws.tells THeader.the-type THeader′.the-laws, tt)))
       (λ κs qs bounds a g are. via 𝓤 _ (fst∗ 𝓤 _ (emp 𝓤))
       (walk 𝓤 H A W mem run (κs .0) (qs .0) (a .0 .ptr .0) (a .0 .ptr .1) (a .0 .name) (a .0 .now) (a .1 .0) (are .0 .0 .1) (are .1 .0) 𝓣 fm known))
 
-  lookup-meets : Triple 𝓤 (𝓣 .C #policy·entry·matches-header) (Matcher 𝓤 H A mem run) → Meets 𝓤 H A this.signature (WpFn 𝓤 H (𝓣 .C) (𝓣 .Λ) code.function) (this.spec 𝓤 H A mem run)
+  lookup-meets : Triple 𝓤 (𝓣 .C #policy·entry·catches-header) (Matcher 𝓤 H A mem run) → Meets 𝓤 H A this.signature (WpFn 𝓤 H (𝓣 .C) (𝓣 .Λ) code.function) (this.spec 𝓤 H A mem run)
   lookup-meets known = walk-meets 𝓤 H A this.ended stayed W (goes-none-slice 𝓤 H A W 1 (0 ∷ []) tt (plain (λ _. R)) yes, (goes-none 𝓤 H A W 1 (λ _. THeader.the-row) yes (λ κs x f. refl), tt)) (this.clauses 𝓤 H A mem run) (WpFn 𝓤 H (𝓣 .C) (𝓣 .Λ) code.function) (WpFn-mono 𝓤 H (W .laws) 𝓣 code.function)
       (lookup-walks (fmOf 𝓤 H (W .laws) 𝓣) known)
 
@@ -356,4 +356,4 @@ lookup-table-spec 𝓤 H 𝓜 𝓖 𝓡 =
     entered 𝓤 H (tripleOf 𝓤 H (𝓖 .A) this.signature (this.spec 𝓤 H (𝓖 .A) (𝓜 .mem) (𝓡 .run)))
     (tables 𝓤 H 𝓜 𝓡 code.env .C) (tables 𝓤 H 𝓜 𝓡 code.env .Λ) #lookup·table·lookup-table code.function (code.unfolded 𝓤 H 𝓜 𝓡)
     (lookup-meets 𝓤 H (𝓖 .A) (givenOf 𝓤 H 𝓜 𝓖) (𝓜 .mem) (𝓡 .run) (tablesOf 𝓤 H 𝓜 (tables 𝓤 H 𝓜 𝓡 code.env))
-    (cited 𝓤 H (Matcher 𝓤 H (𝓖 .A) (𝓜 .mem) (𝓡 .run)) 𝓜 𝓡 code.env #policy·entry·matches-header matcher-def.routine code.calls-policy·entry·matches-header (matcher-thm.met 𝓤 H 𝓜 𝓖 𝓡)))
+    (cited 𝓤 H (Matcher 𝓤 H (𝓖 .A) (𝓜 .mem) (𝓡 .run)) 𝓜 𝓡 code.env #policy·entry·catches-header matcher-def.routine code.calls-policy·entry·catches-header (matcher-thm.met 𝓤 H 𝓜 𝓖 𝓡)))

@@ -1,6 +1,6 @@
 -- The box of every header leaves out none.
 use borrow.Author.Needs.{needs}
-use Rattle.region.proofs.Union.{least-gap}
+use Rattle.region.proofs.Everywhere.{least-gap}
 use Rattle.region.proofs.gap.first_gap.Statement.{statement}
 use Rattle.region.proofs.gap.first_gap.Tie as tie
 

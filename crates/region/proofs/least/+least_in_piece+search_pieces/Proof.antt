@@ -1,15 +1,14 @@
 -- By induction on the entries left, each function above the other. The loop of `search_pieces` cuts the row off: the part below and the part that is kept have what
 -- is still to be found; of the part above and the one kept, one is searched, and each meets fewer rows. That of `least_in_piece` goes on with the part kept.
 use mathlib.Core.List.{_++_}
-use mathlib.Core.Path.{_≡_, refl}
+use mathlib.Core.Path.{_≡_}
 use native.Mathlib.Omega.{arith}
 use lib.ListN.{length}
 use borrow.Author.Needs.{needs}
 use Rattle.policy.specs.Header.{arity, headers}
 use Rattle.policy.specs.Sides.{boxOf}
 use Rattle.policy.specs.steps.Rows.{sides, rowsIn}
-use Rattle.region.proofs.Steps.{Cutting, Open, next-field, cutting-first, cutting-again, cutting-anew, cutting-piece, cutting-falls, parted, open-free, open-covered, open-listed, open-ready, open-unreached, open-reached, open-again, falls-in, falls-down, less, under}
-use Rattle.region.proofs.Opening.{corner-fits}
+use Rattle.region.proofs.Steps.{Cutting, Open, next-field, cutting-first, cutting-again, cutting-anew, cutting-piece, cutting-falls, parted, open-first, open-fits, open-free, open-covered, open-listed, open-ready, open-unreached, open-reached, open-again, falls-in, falls-down, less, under}
 use Rattle.region.proofs.Fields.{next-short}
 use Rattle.region.proofs.Split.{shorts}
 use Prim.Native.Nat.{ℕ, _+_, _*_, _<_, _≤_}
@@ -26,7 +25,7 @@ use Rattle.region.proofs.cut.keep_above.Reads as keep-above-reads
 use Rattle.region.proofs.cut.keep_up_to.Reads as keep-up-to-reads
 use Rattle.region.proofs.cut.next_field.Reads as next-field-reads
 use Rattle.region.proofs.row.row_reaches.Reads as row-reaches-reads
-use Rattle.region.proofs.pick.pick_before.Reads as pick-before-reads
+use Rattle.region.proofs.pick.pick_header.Reads as pick-header-reads
 use Rattle.region.proofs.pick.row_of_two.Reads as row-of-two-reads
 use Rattle.region.proofs.rank.fewer.Reads as fewer-reads
 use Rattle.region.proofs.rank.rank_fields.Reads as rank-fields-reads
@@ -67,7 +66,7 @@ search-pieces-below t =
 
 -- what each callee asks and ensures, and what the functions themselves do below t
 abbrev ls : ℕ → least-in-piece-lts.Claims
-ls t = (pick-before-reads.Asked, pick-before-reads.Learnt, low-corner-reads.Asked, low-corner-reads.Learnt, row-of-two-reads.Asked, row-of-two-reads.Learnt, row-reaches-reads.Asked, row-reaches-reads.Learnt, search-pieces-below t, search-pieces.Post)
+ls t = (pick-header-reads.Asked, pick-header-reads.Learnt, low-corner-reads.Asked, low-corner-reads.Learnt, row-of-two-reads.Asked, row-of-two-reads.Learnt, row-reaches-reads.Asked, row-reaches-reads.Learnt, search-pieces-below t, search-pieces.Post)
 
 abbrev ks : ℕ → search-pieces-lts.Claims
 ks t = (rank-fields-reads.Asked, rank-fields-reads.Learnt, next-field-reads.Asked, next-field-reads.Learnt, most-headers-reads.Asked, most-headers-reads.Learnt, keep-above-reads.Asked, keep-above-reads.Learnt, keep-up-to-reads.Asked, keep-up-to-reads.Learnt, fewer-reads.Asked, fewer-reads.Learnt, goes-first-reads.Asked, goes-first-reads.Learnt, least-in-piece-below t, least-in-piece.Post)
@@ -79,17 +78,17 @@ least-in-piece-Inv-loop a b x₀ left levels found₀ n₀ picked₀ x found n p
 abbrev least-in-piece-μ-loop : least-in-piece-lts.MeasureT-loop
 least-in-piece-μ-loop a b x₀ left levels found₀ n₀ picked₀ x found n picked = n
 
-least-in-piece-pick-before-requires : (t : ℕ) → least-in-piece-lts.Need-pick-before-requires (ls t) (least-in-piece-at t) least-in-piece.Post least-in-piece-Inv-loop least-in-piece-μ-loop
-least-in-piece-pick-before-requires t c κs = search needs
+least-in-piece-pick-header-requires : (t : ℕ) → least-in-piece-lts.Need-pick-header-requires (ls t) (least-in-piece-at t) least-in-piece.Post least-in-piece-Inv-loop least-in-piece-μ-loop
+least-in-piece-pick-header-requires t c κs = (search needs, (search needs, search needs))
 
 least-in-piece-loop-holds : (t : ℕ) → least-in-piece-lts.Need-loop-holds (ls t) (least-in-piece-at t) least-in-piece.Post least-in-piece-Inv-loop least-in-piece-μ-loop
-least-in-piece-loop-holds t c = (omega arith, (search needs, record { box = search needs; same = refl; pick = search needs }))
+least-in-piece-loop-holds t c = (omega arith, (search needs, search open-first))
 
 least-in-piece-enum-told : (t : ℕ) → least-in-piece-lts.Need-enum-told (ls t) (least-in-piece-at t) least-in-piece.Post least-in-piece-Inv-loop least-in-piece-μ-loop
 least-in-piece-enum-told t c = search needs
 
 least-in-piece-low-corner-requires : (t : ℕ) → least-in-piece-lts.Need-low-corner-requires (ls t) (least-in-piece-at t) least-in-piece.Post least-in-piece-Inv-loop least-in-piece-μ-loop
-least-in-piece-low-corner-requires t c κs = search corner-fits
+least-in-piece-low-corner-requires t c κs = search open-fits
 
 least-in-piece-returns : (t : ℕ) → least-in-piece-lts.Need-returns (ls t) (least-in-piece-at t) least-in-piece.Post least-in-piece-Inv-loop least-in-piece-μ-loop
 least-in-piece-returns t c = search open-free
@@ -122,14 +121,14 @@ least-in-piece-search-pieces-requires t c κs = (falls-in _ _ _ (c .before .befo
 least-in-piece-sub-n : (t : ℕ) → least-in-piece-lts.Need-sub-n (ls t) (least-in-piece-at t) least-in-piece.Post least-in-piece-Inv-loop least-in-piece-μ-loop
 least-in-piece-sub-n t c = search needs
 
-least-in-piece-pick-before-requires-2 : (t : ℕ) → least-in-piece-lts.Need-pick-before-requires-2 (ls t) (least-in-piece-at t) least-in-piece.Post least-in-piece-Inv-loop least-in-piece-μ-loop
-least-in-piece-pick-before-requires-2 t c κs = search needs
+least-in-piece-pick-header-requires-2 : (t : ℕ) → least-in-piece-lts.Need-pick-header-requires-2 (ls t) (least-in-piece-at t) least-in-piece.Post least-in-piece-Inv-loop least-in-piece-μ-loop
+least-in-piece-pick-header-requires-2 t c κs = (search needs, (search needs, search needs))
 
 least-in-piece-loop-less : (t : ℕ) → least-in-piece-lts.Need-loop-less (ls t) (least-in-piece-at t) least-in-piece.Post least-in-piece-Inv-loop least-in-piece-μ-loop
 least-in-piece-loop-less t c = search (less, needs)
 
 least-in-piece-loop-again : (t : ℕ) → least-in-piece-lts.Need-loop-again (ls t) (least-in-piece-at t) least-in-piece.Post least-in-piece-Inv-loop least-in-piece-μ-loop
-least-in-piece-loop-again t c = (search (under, needs), (search needs, search open-again))
+least-in-piece-loop-again t c = (search (under, needs), (search needs, open-again _ _ _ _ _ _ _ (c .before .before .before .before .before .before .before .before .before .before .before .before .before .loop .inv .1 .1) _ _ _ _ (c .before .before .search-pieces .ensures .1) (c .pick-header2 .ensures .1 .0) (c .pick-header2 .ensures .1 .1)))
 
 abbrev search-pieces-Inv-loop : search-pieces-lts.InvT-loop
 search-pieces-Inv-loop a b x₀ s left levels ranks g₀ most kept₀ deeper found₀ next₀ x g kept found next =
@@ -164,7 +163,7 @@ search-pieces-loop-holds : (t : ℕ) → search-pieces-lts.Need-loop-holds (ks t
 search-pieces-loop-holds t c =
     let p = c .before .before .before .before .before .before .before .before .before .before .before .before .before .before .before .before .before .before .before .pre .1 .1 in
     let n = c .before .before .before .before .before .before .before .before .before .before .before .next-field .ensures in
-    ((search needs, search needs), cutting-first _ _ _ _ _ _ _ (p .1) n (next-field _ _ _ _ _ _ (p .1) n (p .0)) _ _ (c .before .before .before .before .before .before .keep-above .ensures .1) (c .before .before .before .before .keep-up-to .ensures .1) (c .next-field2 .ensures) _)
+    ((search needs, search needs), cutting-first _ _ _ _ _ _ _ (p .1) n (next-field _ _ _ _ _ (p .1) n (p .0)) _ _ (c .before .before .before .before .before .before .keep-above .ensures .1) (c .before .before .before .before .keep-up-to .ensures .1) (c .next-field2 .ensures) _)
 
 search-pieces-keep-above-requires-2 : (t : ℕ) → search-pieces-lts.Need-keep-above-requires-2 (ks t) (search-pieces-at t) search-pieces.Post search-pieces-Inv-loop search-pieces-μ-loop
 search-pieces-keep-above-requires-2 t c κs = (search needs, (search needs, (search next-short, search needs)))
@@ -206,7 +205,7 @@ search-pieces-returns : (t : ℕ) → search-pieces-lts.Need-returns (ks t) (sea
 search-pieces-returns t c =
     let p = c .before .before .before .before .before .before .before .before .before .before .before .before .before .before .before .before .before .before .before .before .before .pre .1 .1 in
     let n = c .before .before .before .before .before .before .before .before .before .before .before .before .before .next-field .ensures in
-    (search needs, parted _ _ _ _ _ _ _ (p .1) n (next-field _ _ _ _ _ _ (p .1) n (p .0)) _ _ (c .before .before .before .before .before .before .before .before .keep-above .ensures .1) (c .before .before .before .before .before .before .keep-up-to .ensures .1) (c .before .before .next-field2 .ensures) _ _ _ _ _ (c .before .loop .inv .1) (c .loop-test .left))
+    (search needs, parted _ _ _ _ _ _ _ (p .1) n (next-field _ _ _ _ _ (p .1) n (p .0)) _ _ (c .before .before .before .before .before .before .before .before .keep-above .ensures .1) (c .before .before .before .before .before .before .keep-up-to .ensures .1) (c .before .before .next-field2 .ensures) _ _ _ _ _ (c .before .loop .inv .1) (c .loop-test .left))
 
 pub +least-in-piece+search-pieces-spec : {M : Type 1} → statement M
 +least-in-piece+search-pieces-spec =
@@ -215,7 +214,7 @@ pub +least-in-piece+search-pieces-spec : {M : Type 1} → statement M
     least-in-piece.Post
     least-in-piece-Inv-loop
     least-in-piece-μ-loop
-    (least-in-piece-pick-before-requires t)
+    (least-in-piece-pick-header-requires t)
     (least-in-piece-loop-holds t)
     (least-in-piece-enum-told t)
     (least-in-piece-low-corner-requires t)
@@ -229,7 +228,7 @@ pub +least-in-piece+search-pieces-spec : {M : Type 1} → statement M
     (least-in-piece-returns-3 t)
     (least-in-piece-search-pieces-requires t)
     (least-in-piece-sub-n t)
-    (least-in-piece-pick-before-requires-2 t)
+    (least-in-piece-pick-header-requires-2 t)
     (least-in-piece-loop-less t)
     (least-in-piece-loop-again t))
     λ t. search-pieces-lts.spec (ks t)

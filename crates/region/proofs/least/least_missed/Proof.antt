@@ -1,6 +1,6 @@
 -- The second list is empty.
 use borrow.Author.Needs.{needs}
-use Rattle.region.proofs.Union.{one-list}
+use Rattle.region.proofs.Everywhere.{one-list}
 use Rattle.region.proofs.least.least_missed.Statement.{statement}
 use Rattle.region.proofs.least.least_missed.Tie as tie
 

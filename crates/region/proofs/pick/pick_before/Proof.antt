@@ -1,12 +1,12 @@
 -- The low corner does not come before best, or the pick decides.
-use Rattle.region.proofs.Opening.{corner-fits}
+use Rattle.policy.proofs.Least.{among-fits}
 use Rattle.region.proofs.Steps.{pruned-before, picked-before}
 use borrow.Author.Needs.{needs}
 use Rattle.region.proofs.pick.pick_before.Statement.{statement}
 use Rattle.region.proofs.pick.pick_before.Tie as tie
 
 low-corner-requires : tie.Need-low-corner-requires
-low-corner-requires c κs = search corner-fits
+low-corner-requires c κs = search among-fits
 
 is-improved-requires : tie.Need-is-improved-requires
 is-improved-requires c κs = search needs
