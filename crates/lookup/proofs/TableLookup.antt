@@ -1,10 +1,12 @@
 -- Lookup in a table: entry by entry; what a crossed entry and an empty table catch, and that a table read from a file is looked up as the file is.
 -- Assumes nothing.
-use Prim.Native.Nat.{ℕ, _+_, _<_, _≤_}
+use Prim.Native.Nat.{ℕ, suc, _+_, _<_, _≤_}
+use native.Mathlib.Numerals.{add-one}
 use mathlib.Core.Path.{_≡_, refl, sym, ap, _∙_}
-use mathlib.Core.Bool.{Bool, true, false, not, cond, _&&_, and-true}
+use mathlib.Core.Bool.{Bool, true, false, not, cond, _&&_}
 use mathlib.Core.List.{List, [], _∷_}
 use lib.ListN.{length, getD, drop, drop-of-length-le}
+use lib.Seq.{drop-cons}
 use Rattle.policy.specs.declared.header.Header.{Header}
 use Rattle.policy.specs.declared.entry.Entry.{Entry}
 use Rattle.policy.specs.declared.entry.Caught.{Caught}
@@ -25,7 +27,7 @@ use Rattle.wire.proofs.RoundTrip.{held-listed}
 use Rattle.lookup.specs.declared.file.Looked.{Looked}
 use Rattle.lookup.specs.Lookup.{caughtValues, headerCatcher, looked, lookupOf}
 use Rattle.lookup.proofs.FileLookup.{file-refuses}
-use Rattle.lookup.proofs.FirstMatch.{Passed, matched, unmatched}
+use Rattle.lookup.proofs.FirstMatch.{Passed, matched}
 
 -- a crossed entry matches nothing
 pub crossed-matches-nothing : (e : Entry) (h : Header) → crossed e ≡ true → matches e h ≡ false
@@ -44,38 +46,42 @@ HeaderPassed p h i = headerCatcher p h ≡ cond (among headers h) (catcherFrom i
 pub header-passed : (p : List Entry) (h : Header) → HeaderPassed p h 0
 header-passed p h = refl
 
+-- an entry that does not match, or h is no header: the others decide
+pub header-skipped : (b m : Bool) (i : ℕ) (c : Caught) → (b && m) ≡ false → cond b (cond m (By i) c) Uncaught ≡ cond b c Uncaught
+header-skipped false m i c e = refl
+header-skipped true false i c e = refl
+header-skipped true true i c e = clash refl e
+
 module _ (p : List Entry) (h : Header) (i : ℕ) (d e : Entry) (l : i < length p) (at : getD p i d ≡ e) (passed : HeaderPassed p h i) where
   -- of a header, no entry before i matches it
   passed-header : among headers h ≡ true → Passed p h i
   passed-header a =
       sym (ap (λ (b : Bool). cond b (catcher p h) Uncaught) a) ∙ passed ∙ ap (λ (b : Bool). cond b (catcherFrom i (drop i p) h) Uncaught) a
 
-  pub header-matched : (matches e h && among headers h) ≡ true → By i ≡ headerCatcher p h
+  pub header-matched : (among headers h && matches e h) ≡ true → By i ≡ headerCatcher p h
   header-matched m =
-      let a = and-right (matches e h) (among headers h) m in
-      matched p h i d e l at (passed-header a) (and-left (matches e h) (among headers h) m) ∙ sym (ap (λ (b : Bool). cond b (catcher p h) Uncaught) a)
+      let a = and-left (among headers h) (matches e h) m in
+      matched p h i d e l at (passed-header a) (and-right (among headers h) (matches e h) m) ∙ sym (ap (λ (b : Bool). cond b (catcher p h) Uncaught) a)
 
-  pub header-unmatched : (matches e h && among headers h) ≡ false → HeaderPassed p h (i + 1)
-  header-unmatched m = go (among headers h) refl
-    where
-      go : (b : Bool) → among headers h ≡ b → cond b (catcher p h) Uncaught ≡ cond b (catcherFrom (i + 1) (drop (i + 1) p) h) Uncaught
-      go true a = unmatched p h i d e l at (passed-header a) (sym (ap (matches e h &&_) a ∙ and-true (matches e h)) ∙ m)
-      go false a = refl
+  pub header-unmatched : (among headers h && matches e h) ≡ false → HeaderPassed p h (i + 1)
+  header-unmatched m =
+      passed
+      ∙ ap (λ (q : List Entry). cond (among headers h) (catcherFrom i q h) Uncaught) (drop-cons p i d l ∙ ap (_∷ drop (suc i) p) at)
+      ∙ header-skipped (among headers h) (matches e h) i (catcherFrom (i + 1) (drop (suc i) p) h) m
+      ∙ ap (λ (n : ℕ). cond (among headers h) (catcherFrom (i + 1) (drop n p) h) Uncaught) (sym (add-one i))
+
+-- no entry is left
+pub header-none : (b : Bool) → cond b Uncaught Uncaught ≡ Uncaught
+header-none true = refl
+header-none false = refl
 
 pub header-ended : (p : List Entry) (h : Header) (i : ℕ) → length p ≤ i → HeaderPassed p h i → Uncaught ≡ headerCatcher p h
-header-ended p h i l passed = sym (passed ∙ go (among headers h) refl)
-  where
-    go : (b : Bool) → among headers h ≡ b → cond b (catcherFrom i (drop i p) h) Uncaught ≡ Uncaught
-    go true a = ap (λ (q : List Entry). catcherFrom i q h) (drop-of-length-le p l)
-    go false a = refl
+header-ended p h i l passed =
+    sym (passed ∙ ap (λ (q : List Entry). cond (among headers h) (catcherFrom i q h) Uncaught) (drop-of-length-le p l) ∙ header-none (among headers h))
 
 -- an empty table catches nothing
 pub empty-catches-nothing : (h : Header) → headerCatcher [] h ≡ Uncaught
-empty-catches-nothing h = go (among headers h)
-  where
-    go : (b : Bool) → cond b (catcher [] h) Uncaught ≡ Uncaught
-    go true = refl
-    go false = refl
+empty-catches-nothing h = header-none (among headers h)
 
 -- ---- a table read from a file
 

@@ -72,14 +72,14 @@ pub fn matches_header(e: Entry, h: Header) -> bool
     is_inside(&sides, &numbers)
 }
 
-// Whether e matches h, and h is a header. Few entries match, so that comes first.
+// Whether h is a header that e matches. In a loop over entries the compiler asks the first once.
 pub fn catches_header(e: Entry, h: Header) -> bool
-    ensures { λ r. ⌜ r ≡ (matches e h && among headers h) ⌝ }
+    ensures { λ r. ⌜ r ≡ (among headers h && matches e h) ⌝ }
 {
-    if !matches_header(e, h) {
+    if !is_header(h) {
         return false;
     }
-    is_header(h)
+    matches_header(e, h)
 }
 
 // Whether a range of e has its low above its high.

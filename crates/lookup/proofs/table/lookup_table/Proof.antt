@@ -157,13 +157,16 @@ stayed = (stay-none-slice (0 ∷ []) tt (plain (λ _. R)) yes, (stay-none (λ _.
 
 -- ---- the contract of `catches_header`
 
+abbrev catches : Entry → Header → Bool
+catches e h = among headers h && matches e h
+
 module _ {M : Type 1} (𝓤 : URA M) (H : Heap 𝓤) (A : Atoms 𝓤) (mem : Memory → SProp 𝓤) (run : Routine → Fun 𝓤) where
   abbrev Matcher : Contract 𝓤
   Matcher = tripleOf 𝓤 H A matcher.signature (matcher.spec 𝓤 H A mem run)
 
   -- what it ensures
-  says-match : (e : Entry) (h : Header) (r : Bool) → ent 𝓤 (ensured 𝓤 H A matcher.ended (matcher.clauses 𝓤 H A mem run) tt (e, (h, tt)) tt r) (fact 𝓤 (r ≡ (matches e h && among headers h)))
-  says-match e h r = exE 𝓤 _ (λ ws. snd∗ 𝓤 (sem 𝓤 H A (lasts matcher.ended tt (e, (h, tt)) ws)) (fact 𝓤 (r ≡ (matches e h && among headers h))))
+  says-match : (e : Entry) (h : Header) (r : Bool) → ent 𝓤 (ensured 𝓤 H A matcher.ended (matcher.clauses 𝓤 H A mem run) tt (e, (h, tt)) tt r) (fact 𝓤 (r ≡ catches e h))
+  says-match e h r = exE 𝓤 _ (λ ws. snd∗ 𝓤 (sem 𝓤 H A (lasts matcher.ended tt (e, (h, tt)) ws)) (fact 𝓤 (r ≡ catches e h)))
 
 -- ---- the walk, over a table p that lies at (b, o) and is lent for κ, and a header h
 
@@ -288,10 +291,10 @@ module _ {M : Type 1} (𝓤 : URA M) (H : Heap 𝓤) (A : Atoms 𝓤) (W : Given
         -- a header is Copy: one goes with entry i into the call
         move ! (3 ∷ []) $ use1 W (‵ Hs ⊛ ‵ Hs) (StructLaws.copy THeader.the-type THeader′.the-copy 𝓤 H A W .twice h (hv ∷ [])) $ split ! $ move ! (3 ∷ 0 ∷ []) $ use2 W (raw (Matcher 𝓤 H A mem run .pre (asked (i .0)))) (may-ask (i .0)) $
         -- held: [what the call asks; the header's; the token; S; _8; ..; _0]
-        -- _6 = catches_header(_8, h), which is r with r ≡ (matches (elem i) h && among headers h)
+        -- _6 = catches_header(_8, h), which is r with r ≡ catches (elem i) h
         calls-at ! fm (Matcher 𝓤 H A mem run) known (asked (i .0)) (and-then ! (load ! (from ! (stop !)) (look ! 4 refl)) (and-then ! (load ! (from ! (stop !)) (look ! 16 refl)) (no-more !))) (λ v.
         use1 W (later (some (λ (r : Bool). (‵ ftrue ⊛ ‵ (Boolean .own r (v ∷ []))) ⊛ raw (ensured 𝓤 H A matcher.ended (matcher.clauses 𝓤 H A mem run) tt (elem (i .0), (h, tt)) tt r)))) (id⊢ 𝓤 _) $ await ! tt $ pick ! (λ r.
-        split ! $ move ! (1 ∷ []) $ use1 W (raw (fact 𝓤 (r ≡ (matches (elem (i .0)) h && among headers h)))) (says-match 𝓤 H A mem run (elem (i .0)) h r) $ heard ! (r ≡ (matches (elem (i .0)) h && among headers h)) (λ e. split ! $ drop ! $
+        split ! $ move ! (1 ∷ []) $ use1 W (raw (fact 𝓤 (r ≡ catches (elem (i .0)) h))) (says-match 𝓤 H A mem run (elem (i .0)) h r) $ heard ! (r ≡ catches (elem (i .0)) h) (λ e. split ! $ drop ! $
         peeks ! Boolean (Is Boolean) (shows 𝓤 H A Boolean) r (v ∷ []) (λ is.
         land ! (from ! (stop !)) (init ! 8 refl (bool-lawful 𝓤 H A W .typed r _ is .0)) $ drop ! $ move ! (1 ∷ 2 ∷ 0 ∷ []) $
         rewrite ! 7 (λ (u : Val). ‵ (fat fullShare tyBool l₆ 0 u)) (ap firstVal is) refl $
@@ -322,7 +325,7 @@ module _ {M : Type 1} (𝓤 : URA M) (H : Heap 𝓤) (A : Atoms 𝓤) (W : Given
         scaled : T (ltb (i .0) (length p)) → i .0 * 28 < 2 ^ 64
         scaled less = let l : i .0 < length p = below less in let most : length p * 28 < 2 ^ 63 = room .1 in omega arith
 
-        next : T (ltb (i .0) (length p)) → (r : Bool) → r ≡ (matches (elem (i .0)) h && among headers h) → T (not r) → Upto
+        next : T (ltb (i .0) (length p)) → (r : Bool) → r ≡ catches (elem (i .0)) h → T (not r) → Upto
         next less r e miss = (i .0 + 1, (add-one-le (below less), header-unmatched p h (i .0) emptyEntry (elem (i .0)) (below less) refl (i .1 .1) (sym e ∙ is-false r miss)))
 
   -- the whole body: the locals are allocated, the arguments passed, i = 0, and the loop

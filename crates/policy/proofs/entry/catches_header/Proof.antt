@@ -1,4 +1,4 @@
--- The entry does not match, or it is asked whether h is a header.
+-- It is no header, or the entry is asked whether it matches.
 use Rattle.policy.proofs.Conjunctions.{stops, goes-on}
 use borrow.Author.Needs.{needs}
 use Rattle.policy.proofs.entry.catches_header.Statement.{statement}
@@ -18,4 +18,4 @@ returns-2 c = search goes-on
 
 pub catches-header-spec : {M : Type 1} → statement M
 catches-header-spec =
-    tie.close (tie.spec matches-header-requires returns is-header-requires returns-2)
+    tie.close (tie.spec is-header-requires returns matches-header-requires returns-2)
