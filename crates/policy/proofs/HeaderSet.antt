@@ -17,7 +17,7 @@ use Rattle.policy.specs.Header.{arity, widths, fields, lies, sizes, size
 use Rattle.policy.proofs.Bool.{clash, is-false, not-true, and-intro, and-left, and-right, same-truth}
 use Rattle.policy.proofs.Box.{within-by, le-high, in-first, in-rest}
 use Rattle.policy.proofs.Corner.{fits-first, fits-rest, fits-at}
-use Rattle.policy.proofs.Least.{among-fits}
+use Rattle.policy.proofs.Least.{inside-fits, among-fits}
 use Rattle.policy.proofs.Protocols.{narrowed-one}
 
 -- ---- the box of everything holds what fits
@@ -158,9 +158,16 @@ module _ (ps : Ports) (f : allFit (map spanBox (spans ps)) ≡ true) (t : rightB
       go false e = is-false (among (headersOf ps f) h) λ a. clash (among-fits (headersOf ps f) h a) e
 
 -- the set of every law and contract
-pub headers-are : (h : Header) → among headers h ≡ (fits arity sizes (fields h) && isHeader ports h)
+pub headers-fit : (h : Header) → among headers h ≡ (fits arity sizes (fields h) && isHeader ports h)
 unfolding headers
-headers-are h = headers-of ports refl refl h
+headers-fit h = headers-of ports refl refl h
+
+-- so a header is what lies in 01's ALL and has its ports from its protocol
+pub headers-are : (h : Header) → among headers h ≡ (lies everything h && isHeader ports h)
+headers-are h =
+    headers-fit h
+    ∙ ap (_&& isHeader ports h)
+    (same-truth (fits arity sizes (fields h)) (lies everything h) (in-full arity widths (fields h)) (inside-fits arity sizes everything (fields h) refl))
 
 -- ---- the code's test of a header in memory: its numbers fit
 
@@ -171,7 +178,7 @@ module _ (h : Header) (a : h .local < 4294967296) (b : h .remote < 4294967296) (
 
   header-is : among headers h ≡ ((leb first last || eqb (h .«local_port») 0) && (leb first last || eqb (h .«remote_port») 0))
   header-is =
-      headers-are h
+      headers-fit h
       ∙ ap (_&& isHeader ports h) fit
       ∙ ap (λ (o : Bool). (o || eqb (h .«local_port») 0) && (o || eqb (h .«remote_port») 0))
       (sym (ap (λ (n : Range). leb (n .low) (n .high)) n ∙ narrowed-one withPorts (h .protocol) refl))

@@ -1,4 +1,4 @@
-// Headers, their order, and the box of them all.
+// The numbers of headers, their order, and the box of them all.
 use crate::sides::FIELDS;
 use crate::sides::SIDES;
 use crate::sides::low;
@@ -10,7 +10,7 @@ ghost use Rattle.policy.specs.Header.{arity, sizes, header, before, ever
 ghost use Rattle.policy.specs.Refusals.{numbers};
 ghost use Rattle.policy.specs.Sides.{boxOf};
 
-// Five numbers; every combination is a header.
+// Five numbers. Not every combination of them is a header: ports.rt.
 pub struct Header {
     pub local: u32,
     pub remote: u32,

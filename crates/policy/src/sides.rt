@@ -137,7 +137,7 @@ pub fn is_same(a: &[u32; SIDES], b: &[u32; SIDES]) -> bool
     true
 }
 
-// Whether b and the row at a place have a header in common.
+// Whether b and the row at a place overlap.
 pub fn meets_row(s: &[u32], at: usize, b: &[u32; SIDES]) -> bool
     requires { ⌜ at + sides ≤ length (now s) ⌝ }
     ensures { λ t. ⌜ t ≡ proper arity (meet arity (boxOf (now (b .entry)) 0) (boxOf (now (s .entry)) at)) ⌝ }

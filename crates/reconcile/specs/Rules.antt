@@ -101,7 +101,7 @@ WithoutShadowed hs front [] q = q ≡ []
 WithoutShadowed hs front (e ∷ p) q =
     ((r : List Entry) × (q ≡ e ∷ r) × WithoutShadowed hs (front ++ e ∷ []) p r) ⊎ (Shadowed hs front e × WithoutShadowed hs (front ++ e ∷ []) p q)
 
--- without the entries that catch no header; front stands before them
+-- without the entries that catch no header, those that match none among them; front stands before them
 abbrev pub dropShadowed : Headers → List Entry → List Entry → List Entry
 dropShadowed hs front [] = []
 dropShadowed hs front (e ∷ p) =

@@ -39,7 +39,7 @@ pub(crate) fn is_left(rows: &[u32], b: &[u32; SIDES]) -> bool
     }
 }
 
-// The first row from number j on that has a header in common with b; how many rows there are, if none has.
+// The first row from number j on that overlaps b; how many rows there are, if none does.
 fn next_meeting(rows: &[u32], j: usize, b: &[u32; SIDES]) -> usize
     requires { ⌜ j ≤ length (now rows) / rowSize ⌝ }
     ensures { λ k. ⌜ Apart (boxOf (now (b .entry)) 0) (rowsIn (now (rows .entry))) j k ⌝ }

@@ -21,7 +21,7 @@ use Rattle.policy.specs.steps.Rows.{sides}
 use Rattle.policy.proofs.Bool.{clash, is-false, not-true, not-false, and-intro, and-left, and-right, or-right}
 use Rattle.policy.proofs.Box.{low-le, le-high, within-by, in-first, in-rest, in-proper, corner-in}
 use Rattle.policy.proofs.Conjunctions.{ends-are}
-use Rattle.policy.proofs.HeaderSet.{headers-are}
+use Rattle.policy.proofs.HeaderSet.{headers-fit}
 use Rattle.policy.proofs.Protocols.{numbered, narrowed-holds, narrowed-ends}
 use Rattle.region.specs.steps.Narrowing.{Fitting, Part, Narrows, NarrowsTo}
 use Rattle.region.proofs.Fields.{low-put, high-put}
@@ -222,15 +222,15 @@ module _ (b : List ℕ) (p : proper arity (boxOf b 0) ≡ true) (fit : Fitting (
       go true o = refl
       go false o =
           clash
-          (and-intro (zero-low (field b 0 2) (h .«local_port») (in-local (boxOf b 0) (fields h) i) (local-port headers ports headers-are h a o))
-          (zero-low (field b 0 3) (h .«remote_port») (in-remote (boxOf b 0) (fields h) i) (remote-port headers ports headers-are h a o)))
+          (and-intro (zero-low (field b 0 2) (h .«local_port») (in-local (boxOf b 0) (fields h) i) (local-port headers ports headers-fit h a o))
+          (zero-low (field b 0 3) (h .«remote_port») (in-remote (boxOf b 0) (fields h) i) (remote-port headers ports headers-fit h a o)))
           (not-true (sym alone ∙ u))
 
   enough : (q : ℕ) → oneOf withPorts q ≡ true → ((oneOf withPorts q || eqb (localPort (boxOf b 0) .low) 0) && (oneOf withPorts q || eqb (remotePort (boxOf b 0) .low) 0)) ≡ true
   enough q o = ap (λ (t : Bool). (t || eqb (localPort (boxOf b 0) .low) 0) && (t || eqb (remotePort (boxOf b 0) .low) 0)) o
 
   pub code-none : t ≡ true → last < first → NarrowsTo headers (boxOf b 0) (boxOf b 0) false
-  code-none u l = left-none headers ports headers-are (boxOf b 0) p fit withPorts refl (needed u) (crossed first last (narrowed withPorts (protocols (boxOf b 0)) .low) (narrowed withPorts (protocols (boxOf b 0)) .high) (ap (λ (r : Range). r .low) ends) (ap (λ (r : Range). r .high) ends) l)
+  code-none u l = left-none headers ports headers-fit (boxOf b 0) p fit withPorts refl (needed u) (crossed first last (narrowed withPorts (protocols (boxOf b 0)) .low) (narrowed withPorts (protocols (boxOf b 0)) .high) (ap (λ (r : Range). r .low) ends) (ap (λ (r : Range). r .high) ends) l)
     where
       crossed : (f l m n : ℕ) → f ≡ m → l ≡ n → l < f → n < m
       crossed f l m n e g q = omega arith
@@ -238,7 +238,7 @@ module _ (b : List ℕ) (p : proper arity (boxOf b 0) ≡ true) (fit : Fitting (
   pub code-listed : length b ≡ sides → t ≡ true → first ≤ last → NarrowsTo headers (boxOf b 0) (boxOf (set (set b 8 first) 9 last) 0) true
   code-listed k u l =
       subst (λ (c : Box). NarrowsTo headers (boxOf b 0) c true) (sym put)
-      (left-listed headers ports headers-are (boxOf b 0) p fit withPorts refl (needed u) enough
+      (left-listed headers ports headers-fit (boxOf b 0) p fit withPorts refl (needed u) enough
       (proper-ends first last (narrowed withPorts (protocols (boxOf b 0)) .low) (narrowed withPorts (protocols (boxOf b 0)) .high) (ap (λ (r : Range). r .low) ends) (ap (λ (r : Range). r .high) ends) l))
     where
       proper-ends : (f l m n : ℕ) → f ≡ m → l ≡ n → f ≤ l → m ≤ n
@@ -258,12 +258,12 @@ module _ (b : List ℕ) (p : proper arity (boxOf b 0) ≡ true) (fit : Fitting (
       (eqb-true (field b 0 2 .low) 0 (and-left (eqb (field b 0 2 .low) 0) (eqb (field b 0 3 .low) 0) both), eqb-true (field b 0 3 .low) 0 (and-right (eqb (field b 0 2 .low) 0) (eqb (field b 0 3 .low) 0) both))
 
   pub code-whole : t ≡ false → NarrowsTo headers (boxOf b 0) (boxOf b 0) true
-  code-whole u = left-whole headers ports headers-are (boxOf b 0) p fit (zero-ports u .0) (zero-ports u .1)
+  code-whole u = left-whole headers ports headers-fit (boxOf b 0) p fit (zero-ports u .0) (zero-ports u .1)
 
   pub code-bare : length b ≡ sides → t ≡ false → last < first → NarrowsTo headers (boxOf b 0) (boxOf (set (set b 5 0) 7 0) 0) true
   code-bare k u l =
       subst (λ (c : Box). NarrowsTo headers (boxOf b 0) c true) (sym put)
-      (left-bare headers ports headers-are (boxOf b 0) p fit (zero-ports u .0) (zero-ports u .1) λ q w. (no q w, no q w))
+      (left-bare headers ports headers-fit (boxOf b 0) p fit (zero-ports u .0) (zero-ports u .1) λ q w. (no q w, no q w))
     where
       off : (f l m n q : ℕ) → f ≡ m → l ≡ n → l < f → m ≤ q → q ≤ n → ⊥
       off f l m n q e g c a d = omega arith

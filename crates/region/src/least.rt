@@ -10,7 +10,7 @@ use crate::rank::fewer;
 use crate::rank::rank_fields;
 use crate::row::row_reaches;
 use crate::size::goes_first;
-use crate::size::most_headers;
+use crate::size::largest_volume;
 use policy::header::Found;
 use policy::header::low_corner;
 use policy::header::whole;
@@ -33,7 +33,7 @@ ghost use Rattle.region.specs.steps.Corner.{reaches};
 ghost use Rattle.region.specs.steps.Searchable.{Searchable, Ready, Remainder};
 
 // Cuts s, a row that holds the low corner of x and not all of it, off x, field by field, and searches each part above it but one, which it leaves
-// in x. The row meets x, and none of these parts. The parts that are searched by a call have at most half of the headers of x.
+// in x. The row meets x, and none of these parts. The parts that are searched by a call have at most half of the combinations of x.
 fn search_pieces(
     a: &[u32],
     b: &[u32],
@@ -49,7 +49,7 @@ fn search_pieces(
     let mut ranks = [0u32; FIELDS];
     rank_fields(a, b, x, s, levels, &mut ranks);
     let mut g = next_field(x, s, &ranks);
-    let most = most_headers(x, levels);
+    let most = largest_volume(x, levels);
     let mut kept = *x;
     keep_above(&mut kept, s, g);
     keep_up_to(x, s, g);

@@ -80,7 +80,7 @@ fn share(low: u32, high: u32, end: u32) -> u32 {
 }
 
 // Takes for each field the share of x up to the end of the row to be cut off. Cut in their order, the fields leave no part but the largest with more
-// than a quarter of the headers of x: one that is cut after a share of p has at most p (1 - p) of them.
+// than a quarter of the combinations of x: one that is cut after a share of p has at most p (1 - p) of them.
 fn rank_shares(x: &[u32; SIDES], cut: &[u32; SIDES], ranks: &mut [u32; FIELDS]) {
     let mut f: usize = 0;
     while f < FIELDS {

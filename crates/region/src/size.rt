@@ -4,7 +4,7 @@ use policy::sides::SIDES;
 use policy::sides::high;
 use policy::sides::low;
 
-// How many headers b has, about.
+// How many combinations of numbers b has, headers or not, about.
 fn volume(b: &[u32; SIDES]) -> f64 {
     let mut v: f64 = 1.0;
     let mut f: usize = 0;
@@ -15,9 +15,9 @@ fn volume(b: &[u32; SIDES]) -> f64 {
     v
 }
 
-// How many headers of x a part may have that is searched by a call: half of them, and a quarter where no levels are left. Of two parts that were
+// How many combinations of x a part may have that is searched by a call: half of them, and a quarter where no levels are left. Of two parts that were
 // cut as rank_fields says, one has no more.
-pub(crate) fn most_headers(x: &[u32; SIDES], levels: u32) -> f64 {
+pub(crate) fn largest_volume(x: &[u32; SIDES], levels: u32) -> f64 {
     if levels == 0 {
         return volume(x) / 4.0;
     }

@@ -1,4 +1,4 @@
--- No row that is passed has a header in common with the box.
+-- No row that is passed overlaps the box.
 use borrow.Author.Needs.{needs}
 use Prim.Native.Nat.{_-_}
 use Rattle.policy.specs.Sides.{boxOf}

@@ -30,7 +30,7 @@ use Rattle.region.proofs.pick.row_of_two.Reads as row-of-two-reads
 use Rattle.region.proofs.rank.fewer.Reads as fewer-reads
 use Rattle.region.proofs.rank.rank_fields.Reads as rank-fields-reads
 use Rattle.region.proofs.size.goes_first.Reads as goes-first-reads
-use Rattle.region.proofs.size.most_headers.Reads as most-headers-reads
+use Rattle.region.proofs.size.largest_volume.Reads as largest-volume-reads
 use Rattle.region.proofs.least.+least_in_piece+search_pieces.{statement}
 use Rattle.region.proofs.least.+least_in_piece+search_pieces.Tie.{close}
 
@@ -69,7 +69,7 @@ abbrev ls : ℕ → least-in-piece-lts.Claims
 ls t = (pick-header-reads.Asked, pick-header-reads.Learnt, low-corner-reads.Asked, low-corner-reads.Learnt, row-of-two-reads.Asked, row-of-two-reads.Learnt, row-reaches-reads.Asked, row-reaches-reads.Learnt, search-pieces-below t, search-pieces.Post)
 
 abbrev ks : ℕ → search-pieces-lts.Claims
-ks t = (rank-fields-reads.Asked, rank-fields-reads.Learnt, next-field-reads.Asked, next-field-reads.Learnt, most-headers-reads.Asked, most-headers-reads.Learnt, keep-above-reads.Asked, keep-above-reads.Learnt, keep-up-to-reads.Asked, keep-up-to-reads.Learnt, fewer-reads.Asked, fewer-reads.Learnt, goes-first-reads.Asked, goes-first-reads.Learnt, least-in-piece-below t, least-in-piece.Post)
+ks t = (rank-fields-reads.Asked, rank-fields-reads.Learnt, next-field-reads.Asked, next-field-reads.Learnt, largest-volume-reads.Asked, largest-volume-reads.Learnt, keep-above-reads.Asked, keep-above-reads.Learnt, keep-up-to-reads.Asked, keep-up-to-reads.Learnt, fewer-reads.Asked, fewer-reads.Learnt, goes-first-reads.Asked, goes-first-reads.Learnt, least-in-piece-below t, least-in-piece.Post)
 
 abbrev least-in-piece-Inv-loop : least-in-piece-lts.InvT-loop
 least-in-piece-Inv-loop a b x₀ left levels found₀ n₀ picked₀ x found n picked =
@@ -144,8 +144,8 @@ search-pieces-rank-fields-requires t c κs = search needs
 search-pieces-next-field-requires : (t : ℕ) → search-pieces-lts.Need-next-field-requires (ks t) (search-pieces-at t) search-pieces.Post search-pieces-Inv-loop search-pieces-μ-loop
 search-pieces-next-field-requires t c κs = search needs
 
-search-pieces-most-headers-requires : (t : ℕ) → search-pieces-lts.Need-most-headers-requires (ks t) (search-pieces-at t) search-pieces.Post search-pieces-Inv-loop search-pieces-μ-loop
-search-pieces-most-headers-requires t c κs = search needs
+search-pieces-largest-volume-requires : (t : ℕ) → search-pieces-lts.Need-largest-volume-requires (ks t) (search-pieces-at t) search-pieces.Post search-pieces-Inv-loop search-pieces-μ-loop
+search-pieces-largest-volume-requires t c κs = search needs
 
 search-pieces-keep-above-requires : (t : ℕ) → search-pieces-lts.Need-keep-above-requires (ks t) (search-pieces-at t) search-pieces.Post search-pieces-Inv-loop search-pieces-μ-loop
 search-pieces-keep-above-requires t c κs = (search needs, (search next-field, (search (next-short, next-field), search needs)))
@@ -238,7 +238,7 @@ pub +least-in-piece+search-pieces-spec : {M : Type 1} → statement M
     search-pieces-μ-loop
     (search-pieces-rank-fields-requires t)
     (search-pieces-next-field-requires t)
-    (search-pieces-most-headers-requires t)
+    (search-pieces-largest-volume-requires t)
     (search-pieces-keep-above-requires t)
     (search-pieces-keep-up-to-requires t)
     (search-pieces-fewer-requires t)
