@@ -197,11 +197,11 @@ module _ (hs : Headers) (ps : Ports) (are : (h : Header) → among hs h ≡ (fit
 -- ---- what the code shows
 
 -- whether a port is 0 nowhere
-pub alone-local : (l r x : ℕ) → x ≡ l → (x ≡ 0 → ⊥) → true ≡ not (eqb l 0 && eqb r 0)
-alone-local l r x e n = sym (ap (λ (t : Bool). not (t && eqb r 0)) (ap (λ (l : ℕ). eqb l 0) (sym e) ∙ ne-eqb x 0 n))
+pub needs-local : (l r x : ℕ) → x ≡ l → (x ≡ 0 → ⊥) → true ≡ not (eqb l 0 && eqb r 0)
+needs-local l r x e n = sym (ap (λ (t : Bool). not (t && eqb r 0)) (ap (λ (l : ℕ). eqb l 0) (sym e) ∙ ne-eqb x 0 n))
 
-pub alone-remote : (l r x y : ℕ) → x ≡ l → y ≡ r → x ≡ 0 → not (eqb y 0) ≡ not (eqb l 0 && eqb r 0)
-alone-remote l r x y e f z = sym (ap₂ (λ (t u : Bool). not (t && u)) (ap (λ (l : ℕ). eqb l 0) (sym e) ∙ eq-eqb x 0 z) (ap (λ (r : ℕ). eqb r 0) (sym f)))
+pub needs-remote : (l r x y : ℕ) → x ≡ l → y ≡ r → x ≡ 0 → not (eqb y 0) ≡ not (eqb l 0 && eqb r 0)
+needs-remote l r x y e f z = sym (ap₂ (λ (t u : Bool). not (t && u)) (ap (λ (l : ℕ). eqb l 0) (sym e) ∙ eq-eqb x 0 z) (ap (λ (r : ℕ). eqb r 0) (sym f)))
 
 -- by the ports of document 02
 module _ (b : List ℕ) (p : proper arity (boxOf b 0) ≡ true) (fit : Fitting (boxOf b 0)) (t : Bool) (alone : t ≡ not (eqb (field b 0 2 .low) 0 && eqb (field b 0 3 .low) 0))

@@ -20,8 +20,8 @@ const REMOTE_PORT: usize = 3;
 
 const PROTOCOL: usize = 4;
 
-// Whether a port is 0 nowhere in x.
-fn has_ports_alone(x: &[u32; SIDES]) -> bool
+// Whether the headers of x need ports: one of them is 0 nowhere in x.
+fn needs_ports(x: &[u32; SIDES]) -> bool
     ensures { λ t. ⌜ t ≡ not (eqb (field (now (x .entry)) 0 2 .low) 0 && eqb (field (now (x .entry)) 0 3 .low) 0) ⌝ }
 {
     if low(x, LOCAL_PORT) != 0 {
@@ -37,7 +37,7 @@ pub(crate) fn narrow_to_headers(x: &mut [u32; SIDES]) -> bool
     ensures { λ t. ⌜ (length (now (x .exit)) ≡ sides) × NarrowsTo headers (boxOf (now (x .entry)) 0) (boxOf (now (x .exit)) 0) t ⌝ }
 {
     let r = protocols_with_ports(low(x, PROTOCOL), high(x, PROTOCOL));
-    if has_ports_alone(x) {
+    if needs_ports(x) {
         if r.last < r.first {
             return false;
         }

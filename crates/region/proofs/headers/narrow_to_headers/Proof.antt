@@ -13,8 +13,8 @@ high-requires c κs = search needs
 protocols-with-ports-requires : tie.Need-protocols-with-ports-requires
 protocols-with-ports-requires c κs = search needs
 
-has-ports-alone-requires : tie.Need-has-ports-alone-requires
-has-ports-alone-requires c κs = search needs
+needs-ports-requires : tie.Need-needs-ports-requires
+needs-ports-requires c κs = search needs
 
 returns : tie.Need-returns
 returns c = (search needs, search (code-none, needs))
@@ -80,7 +80,7 @@ narrow-to-headers-spec =
     low-requires
     high-requires
     protocols-with-ports-requires
-    has-ports-alone-requires
+    needs-ports-requires
     returns
     mul-x
     mul-x-2
