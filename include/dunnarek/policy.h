@@ -17,7 +17,7 @@
  * length says; the buffer of policy_compare must not overlap a file.
  *
  * A thread with a stack of POLICY_STACK_SIZE bytes is enough for both calls. The most that was found
- * is 39,216 bytes for a comparison and 4,600 for a lookup, of which a thread that does nothing takes
+ * is 39,880 bytes for a comparison and 4,600 for a lookup, of which a thread that does nothing takes
  * 4,528; the frames of the deepest chain of calls add up to less than 54,000. The times below are of
  * one server's processor; docs/MEASUREMENTS.md has more.
  */
@@ -92,7 +92,7 @@ uint32_t policy_lookup(const uint8_t *file, size_t file_len,
  * big-endian, is written to the first POLICY_HEADER_SIZE bytes of the buffer if it has as many; a
  * shorter buffer and every other byte keep their values, and so does the whole buffer on every
  * other answer.
- * Lists of 256 entries as gateways have them take about 0.2 milliseconds, the worst that are known 57.
+ * Lists of 256 entries as gateways have them take 0.1 to 0.2 milliseconds, the worst known 33.
  */
 uint32_t policy_compare(const uint8_t *first, size_t first_len,
                         const uint8_t *second, size_t second_len,

@@ -93,7 +93,7 @@ spansFrom ps from (q ∷ qs) =
 abbrev pub spans : Ports → List Span
 spans ps = spansFrom ps 0 (ps .local)
 
--- the headers where these protocols have these ports, as boxes: proofs/Ports.antt shows that they are those of isHeader
+-- the headers where these protocols have these ports, as boxes: proofs/HeaderSet.antt shows that they are those of isHeader
 abbrev pub headersOf : (ps : Ports) → allFit (map spanBox (spans ps)) ≡ true → Headers
 headersOf ps f = record { boxes = map spanBox (spans ps); fit = f }
 

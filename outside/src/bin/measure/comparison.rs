@@ -82,8 +82,8 @@ fn product_compare<'a>(
 pub fn comparisons(page: &mut Page, product: &Product) {
     page.say("## Comparison of two files\n");
     page.say(
-        "Checks 1 to 5 on both files, then refinement. \"Mostly dead\" is the worst pair known: \
-         half of the second file's entries cover and allow everything, the others catch nothing.\n",
+        "Checks 1 to 5 on both files, then refinement. Where the second is \"mostly dead\", half of \
+         its entries cover and allow everything, and the others catch nothing.\n",
     );
     let mut table = Table::new(&head(&["files", "answer", "boxes"]));
     for (name, first, second) in pairs(&mut Random::new(200)) {
