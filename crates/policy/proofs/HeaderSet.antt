@@ -5,20 +5,18 @@ use native.Mathlib.Omega.{arith}
 use mathlib.Core.Path.{_≡_, refl, sym, _∙_, ap, ap₂, subst}
 use mathlib.Core.Bool.{Bool, true, false, not, _&&_, _||_, and-false, and-true, and-or-distrib-left}
 use mathlib.Core.List.{List, [], _∷_, map}
-use lib.Dec.{ltb, leb, eqb}
-use borrow.Author.Tests.{ltb-true, ltb-false, lt-ltb, le-leb, lt-leb, eqb-true, eq-eqb, ne-eqb}
+use lib.Dec.{ltb, eqb}
+use borrow.Author.Tests.{ltb-true, ltb-false, lt-ltb, eqb-true, eq-eqb, ne-eqb}
 use Rattle.policy.specs.declared.header.Header.{Header}
 use Rattle.policy.specs.Row.{Row}
 use Rattle.policy.specs.Box.{Range, range, within, inside}
 use Rattle.policy.specs.steps.Boxes.{fits}
-use Rattle.policy.specs.steps.Narrowed.{narrowed}
 use Rattle.policy.specs.Ports.{Ports, withPorts, ports, oneOf, isHeader}
 use Rattle.policy.specs.Header.{arity, widths, fields, lies, sizes, sizesOf, allFit, inAny, among, fulls, everything, Headers, Span, portValues, spanBox, spans, headersOf, headers}
 use Rattle.policy.proofs.Bool.{clash, is-false, not-true, and-intro, and-left, and-right, same-truth}
 use Rattle.policy.proofs.Box.{within-by, le-high, in-first, in-rest}
 use Rattle.policy.proofs.Corner.{fits-first, fits-rest, fits-at}
 use Rattle.policy.proofs.Least.{inside-fits, among-fits}
-use Rattle.policy.proofs.Protocols.{narrowed-one}
 
 -- ---- the box of everything holds what fits
 
@@ -171,25 +169,34 @@ headers-are h =
 
 -- ---- the code's test of a header in memory: its numbers fit
 
-module _ (h : Header) (a : h .local < 4294967296) (b : h .remote < 4294967296) (c : h .«local_port» < 65536) (d : h .«remote_port» < 65536) (e : h .protocol < 256)
-    (first last : ℕ) (n : range first last ≡ narrowed withPorts (range (h .protocol) (h .protocol))) where
+module _ (h : Header) (a : h .local < 4294967296) (b : h .remote < 4294967296) (c : h .«local_port» < 65536) (d : h .«remote_port» < 65536) (e : h .protocol < 256) where
   fit : fits arity sizes (fields h) ≡ true
   fit = rw (lt-ltb (h .local) 4294967296 a, lt-ltb (h .remote) 4294967296 b, lt-ltb (h .«local_port») 65536 c, lt-ltb (h .«remote_port») 65536 d, lt-ltb (h .protocol) 256 e)
 
-  header-is : among headers h ≡ ((leb first last || eqb (h .«local_port») 0) && (leb first last || eqb (h .«remote_port») 0))
-  header-is =
+  header-is : (l r : Bool) → eqb (h .«local_port») 0 ≡ l → eqb (h .«remote_port») 0 ≡ r → among headers h ≡ ((oneOf withPorts (h .protocol) || l) && (oneOf withPorts (h .protocol) || r))
+  header-is l r p q =
       headers-fit h
       ∙ ap (_&& isHeader ports h) fit
-      ∙ ap (λ (o : Bool). (o || eqb (h .«local_port») 0) && (o || eqb (h .«remote_port») 0))
-      (sym (ap (λ (n : Range). leb (n .low) (n .high)) n ∙ narrowed-one withPorts (h .protocol) refl))
+      ∙ ap₂ (λ (l r : Bool). (oneOf withPorts (h .protocol) || l) && (oneOf withPorts (h .protocol) || r)) p q
 
-  pub header-with-ports : first ≤ last → true ≡ among headers h
-  header-with-ports l = sym (header-is ∙ ap (λ (o : Bool). (o || eqb (h .«local_port») 0) && (o || eqb (h .«remote_port») 0)) (le-leb first last l))
+  -- a port is not 0: the protocol decides, whatever the other port is
+  pub by-local-port : (t : Bool) → (h .«local_port» ≡ 0 → ⊥) → t ≡ oneOf withPorts (h .protocol) → t ≡ among headers h
+  by-local-port t n o = o ∙ sym (header-is false (eqb (h .«remote_port») 0) (ne-eqb (h .«local_port») 0 n) refl ∙ first (oneOf withPorts (h .protocol)) (eqb (h .«remote_port») 0))
+    where
+      first : (o r : Bool) → ((o || false) && (o || r)) ≡ o
+      first true r = refl
+      first false r = refl
 
-  pub header-without : last < first → (h .«local_port» ≡ 0 → ⊥) → false ≡ among headers h
-  header-without l z =
-      sym (header-is ∙ ap₂ (λ (o p : Bool). (o || p) && (o || eqb (h .«remote_port») 0)) (lt-leb first last l) (ne-eqb (h .«local_port») 0 z))
+  pub by-remote-port : (t : Bool) → h .«local_port» ≡ 0 → (h .«remote_port» ≡ 0 → ⊥) → t ≡ oneOf withPorts (h .protocol) → t ≡ among headers h
+  by-remote-port t z n o = o ∙ sym (header-is true false (eq-eqb (h .«local_port») 0 z) (ne-eqb (h .«remote_port») 0 n) ∙ second (oneOf withPorts (h .protocol)))
+    where
+      second : (o : Bool) → ((o || true) && (o || false)) ≡ o
+      second true = refl
+      second false = refl
 
-  pub header-by-remote : last < first → h .«local_port» ≡ 0 → eqb (h .«remote_port») 0 ≡ among headers h
-  header-by-remote l z =
-      sym (header-is ∙ ap₂ (λ (o p : Bool). (o || p) && (o || eqb (h .«remote_port») 0)) (lt-leb first last l) (eq-eqb (h .«local_port») 0 z))
+  pub by-no-port : h .«local_port» ≡ 0 → h .«remote_port» ≡ 0 → true ≡ among headers h
+  by-no-port z n = sym (header-is true true (eq-eqb (h .«local_port») 0 z) (eq-eqb (h .«remote_port») 0 n) ∙ both (oneOf withPorts (h .protocol)))
+    where
+      both : (o : Bool) → ((o || true) && (o || true)) ≡ true
+      both true = refl
+      both false = refl

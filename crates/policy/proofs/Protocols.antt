@@ -117,7 +117,7 @@ narrowed-ends qs r t l = go (ends-are qs r t)
     go (inr m) = m
 
 -- so there is one among those of one protocol exactly if it is listed
-pub narrowed-one : (qs : List ℕ) (q : ℕ) → numbered qs ≡ true → leb (narrowed qs (range q q) .low) (narrowed qs (range q q) .high) ≡ oneOf qs q
+narrowed-one : (qs : List ℕ) (q : ℕ) → numbered qs ≡ true → leb (narrowed qs (range q q) .low) (narrowed qs (range q q) .high) ≡ oneOf qs q
 narrowed-one qs q t = same-truth (leb (n .low) (n .high)) (oneOf qs q) listed held
   where
     n : Range
@@ -138,6 +138,9 @@ narrowed-one qs q t = same-truth (leb (n .low) (n .high)) (oneOf qs q) listed he
     held o =
         let w = narrowed-holds qs (range q q) q o (within-by (range q q) q (omega arith) (omega arith)) in
         le-leb (n .low) (n .high) (through (n .low) q (n .high) (low-le n q w) (le-high n q w))
+
+pub listed-one : (qs : List ℕ) (q first last : ℕ) → numbered qs ≡ true → range first last ≡ narrowed qs (range q q) → leb first last ≡ oneOf qs q
+listed-one qs q first last t n = ap (λ (n : Range). leb (n .low) (n .high)) n ∙ narrowed-one qs q t
 
 -- ---- the loop over the list, from its last protocol to its first
 

@@ -7,7 +7,7 @@ ghost use mathlib.Core.Path.{_≡_};
 ghost use mathlib.Core.Bool.{cond};
 ghost use Prim.Native.Nat.{min, max};
 ghost use Rattle.policy.specs.Box.{range, within};
-ghost use Rattle.policy.specs.Ports.{withPorts};
+ghost use Rattle.policy.specs.Ports.{withPorts, oneOf};
 ghost use Rattle.policy.specs.Header.{among, headers};
 ghost use Rattle.policy.specs.steps.Narrowed.{narrowed};
 
@@ -49,16 +49,23 @@ pub fn protocols_with_ports(low: u32, high: u32) -> Protocols
     r
 }
 
-// Whether h is a header: its protocol has ports, or both its ports are 0.
+// Whether protocol q has ports.
+fn has_ports(q: u32) -> bool
+    ensures { λ t. ⌜ t ≡ oneOf withPorts q ⌝ }
+{
+    let r = protocols_with_ports(q, q);
+    r.first <= r.last
+}
+
+// Whether h is a header: both its ports are 0, or its protocol has ports. What is looked up is mostly a header, so that the second is mostly true.
 pub fn is_header(h: Header) -> bool
     ensures { λ t. ⌜ t ≡ among headers h ⌝ }
 {
-    let r = protocols_with_ports(h.protocol as u32, h.protocol as u32);
-    if r.first <= r.last {
-        return true;
-    }
     if h.local_port != 0 {
-        return false;
+        return has_ports(h.protocol as u32);
     }
-    h.remote_port == 0
+    if h.remote_port != 0 {
+        return has_ports(h.protocol as u32);
+    }
+    true
 }

@@ -1,34 +1,38 @@
--- The protocol has ports, or each port is looked at.
-use Rattle.policy.proofs.HeaderSet.{header-with-ports, header-without, header-by-remote}
+-- A port is not 0, and the protocol decides; or both are.
+use Rattle.policy.proofs.HeaderSet.{by-local-port, by-remote-port, by-no-port}
 use borrow.Author.Needs.{needs}
 use Rattle.policy.proofs.ports.is_header.Statement.{statement}
 use Rattle.policy.proofs.ports.is_header.Tie as tie
 
-cast-protocols-with-ports : tie.Need-cast-protocols-with-ports
-cast-protocols-with-ports c = search needs
+cast-has-ports : tie.Need-cast-has-ports
+cast-has-ports c = search needs
 
-cast-protocols-with-ports-2 : tie.Need-cast-protocols-with-ports-2
-cast-protocols-with-ports-2 c = search needs
-
-protocols-with-ports-requires : tie.Need-protocols-with-ports-requires
-protocols-with-ports-requires c κs = search needs
+has-ports-requires : tie.Need-has-ports-requires
+has-ports-requires c κs = search needs
 
 returns : tie.Need-returns
-returns c = search (header-with-ports, needs)
+returns c = search (by-local-port, needs)
+
+cast-has-ports-2 : tie.Need-cast-has-ports-2
+cast-has-ports-2 c = search needs
+
+has-ports-requires-2 : tie.Need-has-ports-requires-2
+has-ports-requires-2 c κs = search needs
 
 returns-2 : tie.Need-returns-2
-returns-2 c = search (header-without, needs)
+returns-2 c = search (by-remote-port, needs)
 
 returns-3 : tie.Need-returns-3
-returns-3 c = search (header-by-remote, needs)
+returns-3 c = search (by-no-port, needs)
 
 pub is-header-spec : {M : Type 1} → statement M
 is-header-spec =
     tie.close
     (tie.spec
-    cast-protocols-with-ports
-    cast-protocols-with-ports-2
-    protocols-with-ports-requires
+    cast-has-ports
+    has-ports-requires
     returns
+    cast-has-ports-2
+    has-ports-requires-2
     returns-2
     returns-3)
