@@ -9,7 +9,7 @@ use lib.Dec.{ltb, eqb}
 use borrow.Author.Tests.{ltb-true, ltb-false, lt-ltb, eqb-true, eq-eqb, ne-eqb}
 use Rattle.policy.specs.declared.header.Header.{Header}
 use Rattle.policy.specs.Row.{Row}
-use Rattle.policy.specs.Box.{Range, range, within, inside}
+use Rattle.policy.specs.Box.{range, within, inside}
 use Rattle.policy.specs.steps.Boxes.{fits}
 use Rattle.policy.specs.Ports.{Ports, withPorts, ports, oneOf, isHeader}
 use Rattle.policy.specs.Header.{arity, widths, fields, lies, sizes, sizesOf, allFit, inAny, among, fulls, everything, Headers, Span, portValues, spanBox, spans, headersOf, headers}
