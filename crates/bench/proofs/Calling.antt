@@ -2,20 +2,20 @@
 -- Assumes nothing.
 use Prim.Native.Nat.{ℕ, _+_, _-_, _<_, _≤_}
 use native.Mathlib.Omega.{arith}
-use native.Mathlib.Numerals.{add-one}
 use mathlib.Core.Path.{_≡_, refl, sym, _∙_, ap, subst}
-use mathlib.Core.Bool.{Bool, true, false, cond}
-use mathlib.Core.List.{List, [], _∷_, _++_, append-nil}
+use mathlib.Core.Bool.{Bool, true, false, not, cond}
+use mathlib.Core.List.{List, [], _∷_, _++_}
 use mathlib.Core.Option.{Option, none, some}
 use lib.Dec.{eqb}
-use lib.ListN.{length, getD, take, drop, set, replicate, length-map, List·getD-map}
-use lib.Seq.{take-suc, take-all}
+use lib.ListN.{length, getD, drop, set, replicate, List·getD-map}
 use borrow.Author.Tests.{eq-eqb, ne-eqb}
 use Rattle.policy.specs.declared.entry.Entry.{Entry}
 use Rattle.policy.specs.declared.refusal.Refusal.{Refusal}
-use Rattle.policy.specs.declared.refusal.Refusal.the-variants.{Party, Vacant}
+use Rattle.policy.specs.declared.refusal.Refusal.the-variants.{Party, Vacant, Ranking}
 use Rattle.policy.specs.Header.{headers}
+use Rattle.policy.specs.Ranking.{isRanking}
 use Rattle.policy.specs.Refusals.{Answer, refusal, accepted, isAccepted, refuse}
+use Rattle.policy.proofs.Bool.{not-true, not-false}
 use Rattle.policy.proofs.Refusals.{refusal-refuses, turns-away, goes-past}
 use Rattle.wire.specs.declared.check.Checked.{Checked}
 use Rattle.wire.specs.declared.check.Checked.the-variants.{Good, Refused}
@@ -27,11 +27,12 @@ use Rattle.region.specs.steps.Covering.{listChecksOf}
 use Rattle.region.proofs.ListChecks.{good-passes, passes-tell}
 use Rattle.reconcile.specs.declared.ending.Merged.{Merged}
 use Rattle.reconcile.specs.declared.ending.Merged.the-variants as ending
-use Rattle.reconcile.specs.Rules.{Working, Merging}
-use Rattle.reconcile.specs.steps.Stage.{added, addedAll, ended}
+use Rattle.reconcile.specs.Rules.{Working, Merging, refused, mergeOf}
+use Rattle.reconcile.specs.Installing.{installed}
+use Rattle.reconcile.specs.steps.Stage.{ended}
 use Rattle.reconcile.specs.Ending as end
 use Rattle.reconcile.specs.steps.Ending as said
-use Rattle.reconcile.proofs.Staging.{stages-next, stages-end}
+use Rattle.reconcile.proofs.Staging.{stages-end}
 use Rattle.bench.specs.declared.slots.Slot.{Slot}
 use Rattle.bench.specs.declared.calls.Bench.{Bench}
 use Rattle.bench.specs.declared.calls.FileAnswer.{FileAnswer}
@@ -41,14 +42,18 @@ use Rattle.bench.specs.declared.calls.WithdrawAnswer.the-variants as wit
 use Rattle.bench.specs.declared.calls.MergeAnswer.{MergeAnswer}
 use Rattle.bench.specs.declared.calls.MergeAnswer.the-variants as merge
 use Rattle.bench.specs.Book.{parties, Book, inForce}
-use Rattle.bench.specs.Answers.{filed, badParty, filingOf, withdrew, isVacant, withdrawalOf, mergedAs, mergingOf}
-use Rattle.bench.specs.Held.{slotSize, vacantSlot, slotWith, bytesIn, slotList, listInSlot, bookOf, openBench, withSlot}
+use Rattle.bench.specs.Answers.{filed, badParty, filingOf, withdrew, isVacant, withdrawalOf, mergedAs, mergingOf, installingOf}
+use Rattle.bench.specs.Held.{slotSize, vacantSlot, slotWith, bytesIn, listInSlot, bookOf, openBench, withSlot}
 use Rattle.wire.specs.steps.Fits.{AllFit}
-use Rattle.bench.specs.Calls.{Call, filing, withdrawal, merging, benchFiled, benchWithdrawn, Result, resultOf, benchStep, benchAfter, bookAfter}
+use Rattle.bench.specs.Calls.{Call, filing, withdrawal, merging, installing, benchFiled, benchWithdrawn, Result, resultOf, benchStep, benchAfter, bookAfter}
 use Rattle.bench.specs.Demand3.{Demand3}
-use Rattle.bench.proofs.Trace.{bench-more, book-after, all-covering, EachSlot, in-force}
+use Rattle.bench.specs.Installing.{Installing}
+use Rattle.bench.specs.steps.Staged.{EachSlot, Staged}
+use Rattle.bench.proofs.Trace.{bench-more, book-after, all-covering, in-force}
 use Rattle.bench.proofs.Demand3.{demand-3}
-use Rattle.bench.proofs.Fitting.{reads-back}
+use Rattle.bench.proofs.Installing.{no-ranking-keeps, installs}
+use Rattle.bench.proofs.Fitting.{AllListsFit, reads-back}
+use Rattle.bench.proofs.Slotting.{noSlot}
 
 -- ---- a list of calls goes on
 
@@ -121,10 +126,6 @@ withdrawn-refused b p x e =
     let q : b ≡ benchWithdrawn b p = sym (ap (λ (t : Bool). cond t (withSlot b p vacantSlot) b) (ap isAccepted (sym e) ∙ refusal-refuses x)) in
     (λ i. (e i, q i, []), leads-on b b (withdrawal p) q)
 
--- what reading an array of slots past its end counts as
-abbrev pub noSlot : Slot
-noSlot = record { bytes = []; length = 0 }
-
 vacant-is : (b : Bench) (i : ℕ) → isVacant (getD (bookOf b) i none) ≡ eqb (getD (b .slots) i noSlot .length) 0
 vacant-is b i = ap isVacant (List·getD-map listInSlot (b .slots) i noSlot) ∙ go (eqb (getD (b .slots) i noSlot .length) 0)
   where
@@ -160,82 +161,77 @@ module _ (b : Bench) (p : ℕ) where
 
 -- ---- merge
 
-inForce-snoc : (k : Book) (x : Option (List Entry)) → inForce (k ++ x ∷ []) ≡ inForce k ++ inForce (x ∷ [])
-inForce-snoc [] x = refl
-inForce-snoc (none ∷ k) x = inForce-snoc k x
-inForce-snoc (some p ∷ k) x = ap (p ∷_) (inForce-snoc k x)
+-- after any list of calls that leads to b, a call that leaves the bench leads to it again, and what it answers keeps to P with the lists in force
+abbrev Kept : Bench → Call → (List (List Entry) → Type 0) → Type 0
+Kept b c P = (cs : List Call) → benchAfter cs ≡ b → (benchAfter (cs ++ (c ∷ [])) ≡ b) × P (inForce (bookAfter cs))
 
-each-snoc : (P : List Entry → Type 0) (k : Book) (x : Option (List Entry)) → EachSlot P k → EachSlot P (x ∷ []) → EachSlot P (k ++ x ∷ [])
-each-snoc P [] x e f = f
-each-snoc P (none ∷ k) x e f = each-snoc P k x e f
-each-snoc P (some p ∷ k) x e f = (e .0, each-snoc P k x (e .1) f)
+abbrev pub MergedRight : Bench → List ℕ → MergeAnswer → List ℕ → Type 0
+MergedRight b buffer a after =
+    (_≡_ {A = Result} (mergedAs a, b, after) (resultOf b (merging buffer)))
+    × Kept b (merging buffer) (λ ps. Demand3 ps buffer (mergedAs a) after)
 
--- the working list is that of the first i slots, whose lists' numbers fit their widths
-abbrev pub Staged : Bench → ℕ → Option Working → Type 0
-Staged b i w = (w ≡ addedAll headers none (inForce (take i (bookOf b)))) × EachSlot AllFit (take i (bookOf b))
+abbrev pub InstalledRight : Bench → List ℕ → List ℕ → MergeAnswer → List ℕ → Type 0
+InstalledRight b ranking buffer a after =
+    (_≡_ {A = Result} (mergedAs a, b, after) (resultOf b (installing ranking buffer)))
+    × Kept b (installing ranking buffer) (λ ps. Installing ranking ps buffer (mergedAs a) after)
 
-pub staged-none : (b : Bench) (w : Option Working) → w ≡ none → Staged b 0 w
-staged-none b w e = (e, tt)
+-- the answer for what a merging came to
+pub answer-done : (x : Merged) (n l : ℕ) → x ≡ ending.Done n l → (b : List ℕ) → _≡_ {A = Answer × List ℕ} (mergedAs (merge.Merged n l), b) (said.ending x b)
+answer-done x n l e b = ap (λ (y : Merged). said.ending y b) (sym e)
 
-module _ (b : Bench) (i : ℕ) (w : Option Working) (n : length (b .slots) ≡ 8) (l : i < 8) (e : Staged b i w) where
-  abbrev slot : Slot
-  slot = getD (b .slots) i noSlot
+pub answer-refused : (x : Merged) (r : Refusal) → x ≡ ending.Refused r → (b : List ℕ) → _≡_ {A = Answer × List ℕ} (mergedAs (merge.Refused r), b) (said.ending x b)
+answer-refused x r e b = ap (λ (y : Merged). said.ending y b) (sym e)
 
-  abbrev k : Book
-  k = take i (bookOf b)
+-- the test of the ranking
+pub tested : (ranking : List ℕ) (t : Bool) → t ≡ isRanking ranking → not t ≡ false → isRanking ranking ≡ true
+tested ranking t r n = sym r ∙ not-false {b = t} n
 
-  more : (x : Option (List Entry)) → listInSlot slot ≡ x → take (i + 1) (bookOf b) ≡ k ++ x ∷ []
-  more x q =
-      ap (λ (n : ℕ). take n (bookOf b)) (add-one i)
-      ∙ take-suc (bookOf b) i none (long (length (bookOf b)) (length-map (b .slots) listInSlot ∙ n))
-      ∙ ap (λ (x : Option (List Entry)). k ++ x ∷ []) (List·getD-map listInSlot (b .slots) i noSlot ∙ q)
+-- the book that 01 reckons is the bench's
+book-is : (b : Bench) (cs : List Call) → benchAfter cs ≡ b → bookOf b ≡ bookAfter cs
+book-is b cs c = sym (ap bookOf c) ∙ book-after cs
+
+module _ (b : Bench) (buffer after : List ℕ) (w : Option Working) (e : Staged (bookOf b) w) (x : Merged) (a : MergeAnswer)
+    (told : (c : List ℕ) → _≡_ {A = Answer × List ℕ} (mergedAs a, c) (said.ending x c)) where
+  merges-as : ended headers w ≡ mergeOf headers (inForce (bookOf b))
+  merges-as = stages-end (inForce (bookOf b)) w (e .0)
+
+  lists-fit : (cs : List Call) → benchAfter cs ≡ b → AllListsFit (inForce (bookAfter cs))
+  lists-fit cs c = in-force AllFit (bookAfter cs) (subst (EachSlot AllFit) (book-is b cs c) (e .1))
+
+  pub merge-right : said.ending x after ≡ end.endingOf (ended headers w) buffer → MergedRight b buffer a after
+  merge-right f = (λ i. (q i .0, b, q i .1), λ cs c. (leads-on b b (merging buffer) refl cs c, demand cs c))
     where
-      long : (m : ℕ) → m ≡ 8 → i < m
-      long m e = omega arith
+      q : _≡_ {A = Answer × List ℕ} (mergedAs a, after) (mergingOf (bookOf b) buffer)
+      q = told after ∙ f ∙ ap (λ (y : Merging). end.endingOf y buffer) merges-as
 
-  pub staged-vacant : slot .length ≡ 0 → Staged b (i + 1) w
-  staged-vacant z =
-      let q = more none (ap (λ (t : Bool). cond t none (some (slotList slot))) (eq-eqb (slot .length) 0 z)) in
-      subst (λ (k : Book). (w ≡ addedAll headers none (inForce k)) × EachSlot AllFit k) (sym q)
-      (e .0 ∙ ap (addedAll headers none) (sym (inForce-snoc k none ∙ append-nil (inForce k))), each-snoc AllFit k none (e .1) tt)
-
-  pub staged-next : (v : Option Working) → (slot .length ≡ 0 → ⊥) → (v ≡ added headers w (slotList slot)) × AllFit (slotList slot) → Staged b (i + 1) v
-  staged-next v z f =
-      let q = more (some (slotList slot)) (ap (λ (t : Bool). cond t none (some (slotList slot))) (ne-eqb (slot .length) 0 z)) in
-      subst (λ (k : Book). (v ≡ addedAll headers none (inForce k)) × EachSlot AllFit k) (sym q) (
-        stages-next (inForce k) (slotList slot) w v (e .0) (f .0) ∙ ap (addedAll headers none) (sym (inForce-snoc k (some (slotList slot)))),
-        each-snoc AllFit k (some (slotList slot)) (e .1) (f .1, tt),
-      )
-
-abbrev pub MergedRight : Bench → List ℕ → MergeAnswer → List ℕ → Bench → Type 0
-MergedRight b buffer a after r =
-    (_≡_ {A = Result} (mergedAs a, r, after) (resultOf b (merging buffer)))
-    × ((cs : List Call) → benchAfter cs ≡ b → (benchAfter (cs ++ (merging buffer ∷ [])) ≡ r) × Demand3 (inForce (bookAfter cs)) buffer (mergedAs a) after)
-
-module _ (b : Bench) (buffer after : List ℕ) (i : ℕ) (w : Option Working) (n : length (b .slots) ≡ 8) (l : 8 ≤ i) (m : i ≤ 8) (e : Staged b i w) where
-  whole : take i (bookOf b) ≡ bookOf b
-  whole = take-all i (bookOf b) (long (length (bookOf b)) (length-map (b .slots) listInSlot ∙ n))
-    where
-      long : (k : ℕ) → k ≡ 8 → k ≤ i
-      long k e = omega arith
-
-  merging-is : end.endingOf (ended headers w) buffer ≡ mergingOf (bookOf b) buffer
-  merging-is = ap (λ (x : Merging). end.endingOf x buffer)
-      (stages-end (inForce (bookOf b)) w (e .0 ∙ ap (λ (k : Book). addedAll headers none (inForce k)) whole))
-
-  right : (a : MergeAnswer) → _≡_ {A = Answer × List ℕ} (mergedAs a, after) (mergingOf (bookOf b) buffer) → MergedRight b buffer a after b
-  right a q = (λ i. (q i .0, b, q i .1), λ cs c. (leads-on b b (merging buffer) refl cs c, demand cs c))
-    where
       demand : (cs : List Call) → benchAfter cs ≡ b → Demand3 (inForce (bookAfter cs)) buffer (mergedAs a) after
       demand cs c =
-          let k : bookOf b ≡ bookAfter cs = sym (ap bookOf c) ∙ book-after cs in
-          subst (λ (x : Answer × List ℕ). Demand3 (inForce (bookAfter cs)) buffer (x .0) (x .1)) (sym (q ∙ ap (λ (j : Book). mergingOf j buffer) k))
-          (demand-3 buffer (inForce (bookAfter cs)) (all-covering cs)
-          (reads-back (inForce (bookAfter cs)) (in-force AllFit (bookAfter cs) (subst (EachSlot AllFit) (whole ∙ k) (e .1)))))
+          subst (λ (y : Answer × List ℕ). Demand3 (inForce (bookAfter cs)) buffer (y .0) (y .1)) (sym (q ∙ ap (λ (j : Book). mergingOf j buffer) (book-is b cs c)))
+          (demand-3 buffer (inForce (bookAfter cs)) (all-covering cs) (reads-back (inForce (bookAfter cs)) (lists-fit cs c)))
 
-  module _ (x : Merged) (f : said.ending x after ≡ end.endingOf (ended headers w) buffer) where
-    pub merge-done : (c d : ℕ) → x ≡ ending.Done c d → MergedRight b buffer (merge.Merged c d) after b
-    merge-done c d q = right (merge.Merged c d) (ap (λ (y : Merged). said.ending y after) (sym q) ∙ f ∙ merging-is)
+  pub install-right : (ranking : List ℕ) → isRanking ranking ≡ true
+      → said.ending x after ≡ end.endingOf (installed headers ranking (ended headers w)) buffer → InstalledRight b ranking buffer a after
+  install-right ranking r f = (λ i. (q i .0, b, q i .1), λ cs c. (leads-on b b (installing ranking buffer) refl cs c, promise cs c))
+    where
+      q : _≡_ {A = Answer × List ℕ} (mergedAs a, after) (installingOf (bookOf b) ranking buffer)
+      q =
+          told after
+          ∙ f
+          ∙ ap (λ (y : Merging). end.endingOf (installed headers ranking y) buffer) merges-as
+          ∙ ap (λ (u : Bool). end.endingOf (cond u (installed headers ranking (mergeOf headers (inForce (bookOf b)))) (refused Ranking)) buffer) (sym r)
 
-    pub merge-refused : (y : Refusal) → x ≡ ending.Refused y → MergedRight b buffer (merge.Refused y) after b
-    merge-refused y q = right (merge.Refused y) (ap (λ (z : Merged). said.ending z after) (sym q) ∙ f ∙ merging-is)
+      promise : (cs : List Call) → benchAfter cs ≡ b → Installing ranking (inForce (bookAfter cs)) buffer (mergedAs a) after
+      promise cs c =
+          subst (λ (y : Answer × List ℕ). Installing ranking (inForce (bookAfter cs)) buffer (y .0) (y .1)) (sym (q ∙ ap (λ (j : Book). installingOf j ranking buffer) (book-is b cs c)))
+          (installs ranking buffer (inForce (bookAfter cs)) (all-covering cs) (lists-fit cs c))
+
+-- ---- install: no ranking
+
+pub install-refused : (b : Bench) (ranking buffer : List ℕ) (t : Bool) → t ≡ isRanking ranking → not t ≡ true → InstalledRight b ranking buffer (merge.Refused Ranking) buffer
+install-refused b ranking buffer t r n = (
+  ap (λ (u : Bool). let y = end.endingOf (cond u (installed headers ranking (mergeOf headers (inForce (bookOf b)))) (refused Ranking)) buffer in (y .0, b, y .1)) (sym no),
+  λ cs c. (leads-on b b (installing ranking buffer) refl cs c, no-ranking-keeps ranking buffer (inForce (bookAfter cs)) no),
+)
+  where
+    no : isRanking ranking ≡ false
+    no = sym r ∙ not-true {b = t} n

@@ -33,10 +33,7 @@ use Rattle.wire.specs.Writing.{placed}
 use Rattle.wire.proofs.Records.{length-file}
 use Rattle.reconcile.specs.Ending.{answerOf, fileFor}
 use Rattle.bench.specs.Demand3.{NoCommonAction, LeastWithout, Accepted, MergedList, Demand3}
-
--- a merged list is read again from the start of what holds its file
-abbrev pub ReadsBack : List (List Entry) → Type 0
-ReadsBack ps = (m : List Entry) → mergeOf headers ps ≡ merged m → (r : List ℕ) → listIn (fileOf m ++ r) ≡ m
+use Rattle.bench.proofs.Fitting.{ReadsBack}
 
 -- ---- no action in common
 
@@ -48,7 +45,36 @@ module _ (p : List Entry) (ps : List (List Entry)) (covering : AllCovering heade
   common-none n =
       permits-empty (commonActions (p ∷ ps) h) (common-caught h p ps λ q i. covering q i h member) λ k. common-permits k p ps h ∙ n k
 
+-- ---- conflict
+
+module _ (p : List Entry) (ps : List (List Entry)) (covering : AllCovering headers (p ∷ ps)) (h : Header) where
+  pub conflict-least : Conflicts headers p ps h → LeastWithout (p ∷ ps) h
+  conflict-least c = record {
+    member = c .member;
+    lacking = none-common p ps covering h (c .member) (c .empty);
+    earliest = λ g a b n. clash (common-none p ps covering g a n) (c .earliest g a b);
+  }
+
+  pub least-conflicts : (working headers p ps ≡ crowded → ⊥) → LeastWithout (p ∷ ps) h → Conflicts headers p ps h
+  least-conflicts within w = record {
+    within = within;
+    member = w .member;
+    empty = common-none p ps covering h (w .member) (w .lacking);
+    earliest = λ g a b. is-false (lacking (p ∷ ps) g) λ t. w .earliest g a b (none-common p ps covering g a t);
+  }
+
+-- where no header lacks a common action, and the working list is not crowded, there is a merged list
+pub merges-when : (p : List Entry) (ps : List (List Entry)) → AllCovering headers (p ∷ ps) → (working headers p ps ≡ crowded → ⊥)
+    → ((h : Header) → among headers h ≡ true → NoCommonAction (p ∷ ps) h → ⊥) → (m : List Entry) × (mergeOf headers (p ∷ ps) ≡ merged m)
+merges-when p ps covering within none =
+    accepted-when headers p ps within λ h a. is-false (lacking (p ∷ ps) h) λ t. none h a (none-common p ps covering h a t)
+
 -- ---- the merged list
+
+-- what a header shows that is allowed another set without an entry
+pub shows-needed : (m q : List Entry) → Witness headers (λ h. not (same (allowed q h) (allowed m h)))
+    → (h : Header) × (among headers h ≡ true) × ((caught q h ≡ false) ⊎ (allowed q h ≡ allowed m h → ⊥))
+shows-needed m q w = (w .header, w .member, inr λ s. clash (same-by (allowed q (w .header)) (allowed m (w .header)) s) (not-true (w .holds)))
 
 module _ (p : List Entry) (ps : List (List Entry)) (covering : AllCovering headers (p ∷ ps)) (m : List Entry) (e : mergeOf headers (p ∷ ps) ≡ merged m) where
   pub merged-list-is : MergedList (p ∷ ps) m (length m)
@@ -58,12 +84,8 @@ module _ (p : List Entry) (ps : List (List Entry)) (covering : AllCovering heade
     correct = record { covering = merged-covers headers p ps m e covering; reconciles = merged-reconciles headers p ps m e };
     widest = λ q c. merged-widest headers p ps m e q (c .reconciles);
     crossproduct = λ ts x. merged-crossproduct headers (p ∷ ps) m ts e x;
-    irredundant = λ front d back w. struck (front ++ back) (merged-irredundant headers p ps m e front d back w);
+    irredundant = λ front d back w. shows-needed m (front ++ back) (merged-irredundant headers p ps m e front d back w);
   }
-    where
-      struck : (q : List Entry) → Witness headers (λ h. not (same (allowed q h) (allowed m h)))
-          → (h : Header) × (among headers h ≡ true) × ((caught q h ≡ false) ⊎ (allowed q h ≡ allowed m h → ⊥))
-      struck q w = (w .header, w .member, inr λ s. clash (same-by (allowed q (w .header)) (allowed m (w .header)) s) (not-true (w .holds)))
 
 -- ---- by the cases of the rules
 
@@ -84,7 +106,7 @@ module _ (buffer : List ℕ) where
       go false e = absurd (a (sym (ap (λ (x : Answer). x .number) e)))
 
   -- what the answer says of the merging
-  told-refused : (r : Merging) (s : Refusal) → answerTo r ≡ refusal s → (refusal s .number ≡ 11 → ⊥) → r ≡ refused s
+  pub told-refused : (r : Merging) (s : Refusal) → answerTo r ≡ refusal s → (refusal s .number ≡ 11 → ⊥) → r ≡ refused s
   told-refused (refused r) s e n = ap refused (refusal-same r s e)
   told-refused (merged m) s e n = apart-merged m (refusal s) e (refusal-number s) n
 
@@ -96,7 +118,7 @@ module _ (buffer : List ℕ) where
     pub size : fileSize (length list) ≡ l
     pub after : bufferAfter r ≡ placed (fileOf list) buffer
 
-  told-accepted : (r : Merging) (n l : ℕ) → answerTo r ≡ accepted (n ∷ l ∷ []) → Wrote r n l
+  pub told-accepted : (r : Merging) (n l : ℕ) → answerTo r ≡ accepted (n ∷ l ∷ []) → Wrote r n l
   told-accepted (refused r) n l e = refusal-clash r (n ∷ l ∷ []) e
   told-accepted (merged m) n l e = go (ltb (length buffer) (fileSize (length m))) refl e
     where
@@ -115,8 +137,8 @@ module _ (buffer : List ℕ) where
   pub left-alone : (r : Merging) → isAccepted (answerTo r) ≡ false → bufferAfter r ≡ buffer
   left-alone r e = ap (λ (b : Bool). cond b (placed (fileFor r) buffer) buffer) e
 
-  written : (ps : List (List Entry)) (m : List Entry) → mergeOf headers ps ≡ merged m → Accepted ps buffer (answerTo (mergeOf headers ps)) (bufferAfter (mergeOf headers ps))
-  written ps m e = record {
+  pub written : (r : Merging) (m : List Entry) → r ≡ merged m → Accepted r buffer (answerTo r) (bufferAfter r)
+  written r m e = record {
     list = m;
     by-the-rules = e;
     long-enough = λ l. (ap answerTo e ∙ fits (le-ltb (length buffer) (fileSize (length m)) l), ap bufferAfter e ∙ file (le-ltb (length buffer) (fileSize (length m)) l));
@@ -132,9 +154,17 @@ module _ (buffer : List ℕ) where
       short : ltb (length buffer) (fileSize (length m)) ≡ true → answerTo (merged m) ≡ refusal (Narrow (fileSize (length m)))
       short t = ap (λ (b : Bool). firstOf (refuse b (Narrow (fileSize (length m))) ∷ []) (accepted (length m ∷ fileSize (length m) ∷ []))) t
 
+  -- the list that is read from the start of the buffer is the one that was written
+  pub read-again : (r : Merging) → ReadsBack r → (n l : ℕ) (w : Wrote r n l) (P : List Entry → ℕ → Type 0) → P (w .list) (length (w .list)) → P (listIn (take l (bufferAfter r))) n
+  read-again r back n l w P p =
+      subst (P (listIn (take l (bufferAfter r)))) (w .count)
+      (subst (λ (m : List Entry). P m (length (w .list)))
+      (sym (ap listIn (ap (take l) (w .after) ∙ take-at (fileOf (w .list)) (drop (length (fileOf (w .list))) buffer) l (length-file (w .list) ∙ w .size) ∙ sym (append-nil (fileOf (w .list)))) ∙ back (w .list) (w .is) []))
+      p)
+
   -- ---- all of it
 
-  pub demand-3 : (ps : List (List Entry)) → AllCovering headers ps → ReadsBack ps → Demand3 ps buffer (answerOf (mergeOf headers ps) buffer) (ifAccepted (answerOf (mergeOf headers ps) buffer) (placed (fileFor (mergeOf headers ps)) buffer) buffer)
+  pub demand-3 : (ps : List (List Entry)) → AllCovering headers ps → ReadsBack (mergeOf headers ps) → Demand3 ps buffer (answerOf (mergeOf headers ps) buffer) (ifAccepted (answerOf (mergeOf headers ps) buffer) (placed (fileFor (mergeOf headers ps)) buffer) buffer)
   demand-3 [] covering back = record {
     conflict-named = λ h r. absurd r;
     conflict-found = λ r. absurd r;
@@ -146,33 +176,20 @@ module _ (buffer : List ℕ) where
     refused = λ e. refl;
   }
   demand-3 (p ∷ ps) covering back = record {
-    conflict-named = λ h within. (λ e. named h (conflict-tells headers p ps h (told-refused (mergeOf headers (p ∷ ps)) (Conflict h) e λ z. omega arith)), λ w. ap answerTo (conflict-made headers p ps h (made h within w)));
+    conflict-named = λ h within. (λ e. conflict-least p ps covering h (conflict-tells headers p ps h (told-refused (mergeOf headers (p ∷ ps)) (Conflict h) e λ z. omega arith)), λ w. ap answerTo (conflict-made headers p ps h (least-conflicts p ps covering h within w)));
     conflict-found = λ within h a n. let c = conflict-some headers p ps h within a (common-none p ps covering h a n) in (c .0, ap answerTo (c .1));
     otherwise = λ within none.
-        let m = accepted-when headers p ps within (λ h a. is-false (lacking (p ∷ ps) h) λ t. none h a (none-common p ps covering h a t)) in
-        written (p ∷ ps) (m .0) (m .1);
-    merged-list = λ n l e. read n l (told-accepted (mergeOf headers (p ∷ ps)) n l e);
+        let m = merges-when p ps covering within none in
+        written (mergeOf headers (p ∷ ps)) (m .0) (m .1);
+    merged-list = λ n l e.
+        let w = told-accepted (mergeOf headers (p ∷ ps)) n l e in
+        read-again (mergeOf headers (p ∷ ps)) back n l w (MergedList (p ∷ ps)) (merged-list-is p ps covering (w .list) (w .is));
     bare = (λ e. absurd (never-bare (working headers p ps) (conflictOf headers (p ∷ ps)) (told-refused (mergeOf headers (p ∷ ps)) Bare e λ z. omega arith)), λ e. absurd (let z : _≡_ {A = ℕ} 0 1 = cc in omega arith));
     crowded-only = λ e within. within (was-crowded (working headers p ps) (conflictOf headers (p ∷ ps)) (told-refused (mergeOf headers (p ∷ ps)) Crowded e λ z. omega arith));
     crowded-when = λ q qs e w. ap answerTo (ap (mergeOf headers) e ∙ ap (λ (v : Working). finished headers v (conflictOf headers (q ∷ qs))) w);
     refused = left-alone (mergeOf headers (p ∷ ps));
   }
     where
-      named : (h : Header) → Conflicts headers p ps h → LeastWithout (p ∷ ps) h
-      named h c = record {
-        member = c .member;
-        lacking = none-common p ps covering h (c .member) (c .empty);
-        earliest = λ g a b n. clash (common-none p ps covering g a n) (c .earliest g a b);
-      }
-
-      made : (h : Header) → (working headers p ps ≡ crowded → ⊥) → LeastWithout (p ∷ ps) h → Conflicts headers p ps h
-      made h within w = record {
-        within = within;
-        member = w .member;
-        empty = common-none p ps covering h (w .member) (w .lacking);
-        earliest = λ g a b. is-false (lacking (p ∷ ps) g) λ t. w .earliest g a b (none-common p ps covering g a t);
-      }
-
       never-bare : (w : Working) (c : Found) → finished headers w c ≡ refused Bare → ⊥
       never-bare (list w) (At h) e = let z : _≡_ {A = ℕ} 0 1 = cc in omega arith
       never-bare (list w) Nothing e = let z : _≡_ {A = ℕ} 0 1 = cc in omega arith
@@ -182,10 +199,3 @@ module _ (buffer : List ℕ) where
       was-crowded (list w) (At h) e = absurd (let z : _≡_ {A = ℕ} 0 1 = cc in omega arith)
       was-crowded (list w) Nothing e = absurd (let z : _≡_ {A = ℕ} 0 1 = cc in omega arith)
       was-crowded crowded c e = refl
-
-      read : (n l : ℕ) → Wrote (mergeOf headers (p ∷ ps)) n l → MergedList (p ∷ ps) (listIn (take l (bufferAfter (mergeOf headers (p ∷ ps))))) n
-      read n l w =
-          subst (λ (i : ℕ). MergedList (p ∷ ps) (listIn (take l (bufferAfter (mergeOf headers (p ∷ ps))))) i) (w .count)
-          (subst (λ (m : List Entry). MergedList (p ∷ ps) m (length (w .list)))
-          (sym (ap listIn (ap (take l) (w .after) ∙ take-at (fileOf (w .list)) (drop (length (fileOf (w .list))) buffer) l (length-file (w .list) ∙ w .size) ∙ sym (append-nil (fileOf (w .list)))) ∙ back (w .list) (w .is) []))
-          (merged-list-is p ps covering (w .list) (w .is)))

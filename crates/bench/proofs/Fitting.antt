@@ -1,8 +1,8 @@
--- The numbers of a merged list fit their widths where those of the lists in force do, so it reads back from its file.
+-- The numbers of a merged or installed list fit their widths where those of the lists in force do, so it reads back from its file.
 -- Assumes nothing.
-use Prim.Native.Nat.{ℕ, zero, suc, min, max}
+use Prim.Native.Nat.{ℕ, zero, suc, _<_, min, max}
 use native.Mathlib.Omega.{arith}
-use mathlib.Core.Path.{_≡_, refl, sym, subst}
+use mathlib.Core.Path.{_≡_, refl, sym, ap, subst}
 use mathlib.Core.Logic.{inl, inr}
 use mathlib.Core.Bool.{Bool, true, false, cond}
 use mathlib.Core.List.{List, [], _∷_, _++_, map}
@@ -10,19 +10,25 @@ use lib.Bits.{and-lt}
 use lib.Dec.{ltb, leb}
 use lib.ListN.{length}
 use borrow.Author.Tests.{ltb-true, lt-ltb}
+use Rattle.policy.specs.declared.header.Header.{Header}
 use Rattle.policy.specs.declared.entry.Entry.{Entry}
 use Rattle.policy.specs.Row.{Row}
 use Rattle.policy.specs.Box.{Range, proper, highsFit, meet}
 use Rattle.policy.specs.steps.Boxes.{lows, fits}
 use Rattle.policy.specs.Header.{arity, sizes, headers}
-use Rattle.policy.specs.Entry.{selector, both}
+use Rattle.policy.specs.Ranking.{isRanking}
+use Rattle.policy.specs.Entry.{selector, matches, both}
+use Rattle.policy.specs.Policy.{Allowed, actions, uncaught, allowed}
 use Rattle.policy.proofs.Bool.{and-intro, and-left, and-right}
+use Rattle.policy.proofs.Ranked.{ranks-actions, best-fits}
 use Rattle.wire.specs.Format.{listLimit, listIn, fileOf}
 use Rattle.wire.specs.steps.Fits.{Fits, AllFit}
 use Rattle.wire.proofs.RoundTrip.{written-and-read}
 use Rattle.reconcile.specs.Crossproduct.{In}
-use Rattle.reconcile.specs.Rules.{cross, dropEmpty, shadowed, dropShadowed, trimmed, Working, list, crowded, limited, next, nextAll, needless, struckFrom, merged, mergeOf}
+use Rattle.reconcile.specs.Rules.{cross, dropEmpty, shadowed, dropShadowed, trimmed, Working, list, crowded, limited, next, nextAll, needless, struckFrom, struck, Merging, merged, mergeOf}
+use Rattle.reconcile.specs.Installing.{withBest}
 use Rattle.reconcile.proofs.Merging.{merges, merged-few}
+use Rattle.reconcile.proofs.Installing.{installed-few}
 
 -- ---- the intersection of two entries
 
@@ -116,10 +122,45 @@ all-fit w (p ∷ ps) f g = all-fit (next headers w p) ps (next-fit w p f (g p (i
 abbrev pub AllListsFit : List (List Entry) → Type 0
 AllListsFit ps = (q : List Entry) → In q ps → AllFit q
 
-pub reads-back : (ps : List (List Entry)) → AllListsFit ps → (m : List Entry) → mergeOf headers ps ≡ merged m → (r : List ℕ) → listIn (fileOf m ++ r) ≡ m
-reads-back [] f m e r = absurd (let z : _≡_ {A = ℕ} 0 1 = cc in omega arith)
-reads-back (p ∷ ps) f m e r =
+-- a list that a call is to write is read again from the start of what holds its file
+abbrev pub ReadsBack : Merging → Type 0
+ReadsBack x = (m : List Entry) → x ≡ merged m → (r : List ℕ) → listIn (fileOf m ++ r) ≡ m
+
+pub merged-fit : (p : List Entry) (ps : List (List Entry)) → AllListsFit (p ∷ ps) → (m : List Entry) → mergeOf headers (p ∷ ps) ≡ merged m → AllFit m
+merged-fit p ps f m e =
     let g = merges headers p ps m e in
-    written-and-read m r (merged-few headers p ps m e)
-    (subst AllFit (sym (g .left)) (struck-fit [] (g .work)
-    (subst WorkFits (g .worked) (all-fit (limited (trimmed headers p)) ps (limited-fit (trimmed headers p) (trimmed-fit p (f p (inl refl)))) λ q i. f q (inr i)))))
+    subst AllFit (sym (g .left)) (struck-fit [] (g .work)
+    (subst WorkFits (g .worked) (all-fit (limited (trimmed headers p)) ps (limited-fit (trimmed headers p) (trimmed-fit p (f p (inl refl)))) λ q i. f q (inr i))))
+
+pub reads-back : (ps : List (List Entry)) → AllListsFit ps → ReadsBack (mergeOf headers ps)
+reads-back [] f m e r = absurd (let z : _≡_ {A = ℕ} 0 1 = cc in omega arith)
+reads-back (p ∷ ps) f m e r = written-and-read m r (merged-few headers p ps m e) (merged-fit p ps f m e)
+
+-- ---- installing
+
+-- what is allowed is a set of 16 bits
+pub allowed-fits : (p : List Entry) → AllFit p → (h : Header) (a : ℕ) → allowed p h ≡ actions a → a < 65536
+allowed-fits [] f h a e = absurd (let z : _≡_ {A = ℕ} 0 1 = cc in omega arith)
+allowed-fits (e ∷ p) f h a q = go (matches e h) (allowed-fits p (f .1) h a) q
+  where
+    set-of : Allowed → ℕ
+    set-of (actions a) = a
+    set-of uncaught = 0
+
+    go : (b : Bool) → (allowed p h ≡ actions a → a < 65536) → cond b (actions (e .actions)) (allowed p h) ≡ actions a → a < 65536
+    go true ih q = subst (λ (x : ℕ). x < 65536) (ap set-of q) (f .0 .set)
+    go false ih q = ih q
+
+best-fit : (ranking : List ℕ) → isRanking ranking ≡ true → (p : List Entry) → AllFit p → AllFit (map (withBest ranking) p)
+best-fit ranking r [] f = tt
+best-fit ranking r (e ∷ p) f = (
+  record { low-ends = f .0 .low-ends; high-ends = f .0 .high-ends; set = best-fits ranking (e .actions) (ranks-actions ranking r) },
+  best-fit ranking r p (f .1),
+)
+
+pub installed-reads-back : (ranking : List ℕ) → isRanking ranking ≡ true → (p : List Entry) (ps : List (List Entry)) → AllListsFit (p ∷ ps)
+    → (m : List Entry) → mergeOf headers (p ∷ ps) ≡ merged m
+    → (r : List ℕ) → listIn (fileOf (struck headers (map (withBest ranking) m)) ++ r) ≡ struck headers (map (withBest ranking) m)
+installed-reads-back ranking k p ps f m e r =
+    written-and-read (struck headers (map (withBest ranking) m)) r (installed-few headers ranking p ps m e)
+    (struck-fit [] (map (withBest ranking) m) (best-fit ranking k m (merged-fit p ps f m e)))

@@ -1,7 +1,8 @@
 pub mod Filing
 pub mod Trace
-pub mod Demand3
 pub mod Fitting
+pub mod Demand3
+pub mod Installing
 pub mod Slotting
 pub mod Calling
 pub mod EveryList

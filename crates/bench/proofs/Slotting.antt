@@ -1,23 +1,27 @@
 -- What the functions on slots show.
 -- Assumes nothing.
-use Prim.Native.Nat.{ℕ, zero, suc, _+_, _-_, _*_, _/_, _≤_, min, max}
+use Prim.Native.Nat.{ℕ, zero, suc, _+_, _-_, _*_, _/_, _<_, _≤_, min, max}
 use native.Mathlib.Omega.{arith}
+use native.Mathlib.Numerals.{add-one}
 use mathlib.Core.Path.{_≡_, refl, sym, _∙_, ap, ap₂, subst}
-use mathlib.Core.Bool.{Bool, true, false}
-use mathlib.Core.List.{List, [], _∷_, _++_}
-use mathlib.Core.Option.{Option}
+use mathlib.Core.Bool.{Bool, true, false, cond}
+use mathlib.Core.List.{List, [], _∷_, _++_, map, append-nil}
+use mathlib.Core.Option.{Option, none, some}
 use lib.Dec.{leb}
-use lib.ListN.{length, take, drop, replicate, length-take, length-drop}
-use lib.Seq.{paste, take-length, take-all, take-nil}
-use borrow.Author.Tests.{leb-true, leb-false}
+use lib.ListN.{length, getD, take, drop, replicate, length-take, length-drop, length-map, List·getD-map}
+use lib.Seq.{paste, take-length, take-suc, take-all, take-nil}
+use borrow.Author.Tests.{eq-eqb, ne-eqb, leb-true, leb-false}
 use Rattle.policy.specs.Header.{headers}
 use Rattle.policy.specs.declared.entry.Entry.{Entry}
 use Rattle.wire.specs.Format.{Bytes, headSize, recordSize, filedLimit, entriesFrom, recordsIn}
 use Rattle.wire.proofs.Records.{entries-fit}
 use Rattle.reconcile.specs.Rules.{Working}
-use Rattle.reconcile.specs.steps.Stage.{filedIn, added}
+use Rattle.reconcile.specs.steps.Stage.{filedIn, added, addedAll}
+use Rattle.reconcile.proofs.Staging.{stages-next}
 use Rattle.bench.specs.declared.slots.Slot.{Slot}
-use Rattle.bench.specs.Held.{slotSize, slotWith, bytesIn, slotList}
+use Rattle.bench.specs.Book.{Book, inForce}
+use Rattle.bench.specs.Held.{slotSize, slotWith, bytesIn, slotList, listInSlot}
+use Rattle.bench.specs.steps.Staged.{EachSlot, Staged}
 use Rattle.wire.specs.steps.Fits.{AllFit}
 
 -- ---- a file in a slot
@@ -98,3 +102,55 @@ slot-adds s r slot end z e f =
         go false q =
             let m = leb-false (slot .length) slotSize q in
             take-all (end - headSize) behind (omega (arith, length-drop headSize (slot .bytes))) ∙ sym (take-all (slot .length - headSize) behind (omega (arith, length-drop headSize (slot .bytes))))
+
+-- ---- the lists of all slots
+
+-- what reading an array of slots past its end counts as
+abbrev pub noSlot : Slot
+noSlot = record { bytes = []; length = 0 }
+
+inForce-snoc : (k : Book) (x : Option (List Entry)) → inForce (k ++ x ∷ []) ≡ inForce k ++ inForce (x ∷ [])
+inForce-snoc [] x = refl
+inForce-snoc (none ∷ k) x = inForce-snoc k x
+inForce-snoc (some p ∷ k) x = ap (p ∷_) (inForce-snoc k x)
+
+each-snoc : (P : List Entry → Type 0) (k : Book) (x : Option (List Entry)) → EachSlot P k → EachSlot P (x ∷ []) → EachSlot P (k ++ x ∷ [])
+each-snoc P [] x e f = f
+each-snoc P (none ∷ k) x e f = each-snoc P k x e f
+each-snoc P (some p ∷ k) x e f = (e .0, each-snoc P k x (e .1) f)
+
+module _ (slots : List Slot) (i : ℕ) (w : Option Working) (n : length slots ≡ 8) (e : Staged (take i (map listInSlot slots)) w) where
+  abbrev slot : Slot
+  slot = getD slots i noSlot
+
+  abbrev k : Book
+  k = take i (map listInSlot slots)
+
+  more : (x : Option (List Entry)) → i < 8 → listInSlot slot ≡ x → take (i + 1) (map listInSlot slots) ≡ k ++ x ∷ []
+  more x l q =
+      ap (λ (n : ℕ). take n (map listInSlot slots)) (add-one i)
+      ∙ take-suc (map listInSlot slots) i none (long (length (map listInSlot slots)) (length-map slots listInSlot ∙ n))
+      ∙ ap (λ (x : Option (List Entry)). k ++ x ∷ []) (List·getD-map listInSlot slots i noSlot ∙ q)
+    where
+      long : (m : ℕ) → m ≡ 8 → i < m
+      long m e = omega arith
+
+  pub staged-vacant : i < 8 → slot .length ≡ 0 → Staged (take (i + 1) (map listInSlot slots)) w
+  staged-vacant l z =
+      let q = more none l (ap (λ (t : Bool). cond t none (some (slotList slot))) (eq-eqb (slot .length) 0 z)) in
+      subst (λ (k : Book). Staged k w) (sym q)
+      (e .0 ∙ ap (addedAll headers none) (sym (inForce-snoc k none ∙ append-nil (inForce k))), each-snoc AllFit k none (e .1) tt)
+
+  pub staged-next : (v : Option Working) → i < 8 → (slot .length ≡ 0 → ⊥) → (v ≡ added headers w (slotList slot)) × AllFit (slotList slot) → Staged (take (i + 1) (map listInSlot slots)) v
+  staged-next v l z f =
+      let q = more (some (slotList slot)) l (ap (λ (t : Bool). cond t none (some (slotList slot))) (ne-eqb (slot .length) 0 z)) in
+      subst (λ (k : Book). Staged k v) (sym q) (
+        stages-next (inForce k) (slotList slot) w v (e .0) (f .0) ∙ ap (addedAll headers none) (sym (inForce-snoc k (some (slotList slot)))),
+        each-snoc AllFit k (some (slotList slot)) (e .1) (f .1, tt),
+      )
+
+  pub staged-all : 8 ≤ i → Staged (map listInSlot slots) w
+  staged-all l = subst (λ (k : Book). Staged k w) (take-all i (map listInSlot slots) (long (length (map listInSlot slots)) (length-map slots listInSlot ∙ n))) e
+    where
+      long : (k : ℕ) → k ≡ 8 → k ≤ i
+      long k e = omega arith

@@ -17,7 +17,8 @@ use Rattle.bench.specs.declared.calls.Bench.{Bench}
 use Rattle.bench.specs.Book.{Book, emptyBook, inForce}
 use Rattle.bench.specs.Answers.{filingOf, withdrawalOf}
 use Rattle.bench.specs.Held.{vacantSlot, slotWith, listInSlot, bookOf, openBench, withSlot}
-use Rattle.bench.specs.Calls.{Call, filing, withdrawal, merging, benchStep, benchFrom, benchAfter, bookStep, bookFrom, bookAfter, FilesHave, AllBytes}
+use Rattle.bench.specs.Calls.{Call, filing, withdrawal, merging, installing, benchStep, benchFrom, benchAfter, bookStep, bookFrom, bookAfter, FilesHave, AllBytes}
+use Rattle.bench.specs.steps.Staged.{EachSlot}
 use Rattle.bench.proofs.Filing.{Files, filing-tells, slot-holds}
 
 -- ---- one call more
@@ -52,6 +53,7 @@ step-holds b (withdrawal p) = go (isAccepted (withdrawalOf (bookOf b) p))
     go true = map-set listInSlot (b .slots) (p - 1) vacantSlot
     go false = refl
 step-holds b (merging buffer) = refl
+step-holds b (installing ranking buffer) = refl
 
 from-holds : (b : Bench) (k : Book) (cs : List Call) → bookOf b ≡ k → bookOf (benchFrom b cs) ≡ bookFrom k cs
 from-holds b k [] e = e
@@ -63,17 +65,12 @@ book-after cs = from-holds openBench emptyBook cs refl
 
 -- ---- every list in the book was filed
 
--- what holds of every list in a slot
-abbrev pub EachSlot : (List Entry → Type 0) → Book → Type 0
-EachSlot P [] = Unit {0}
-EachSlot P (none ∷ k) = EachSlot P k
-EachSlot P (some p ∷ k) = P p × EachSlot P k
-
 anything : (cs : List Call) → FilesHave (λ s. Unit {0}) cs
 anything [] = tt
 anything (filing p s ∷ cs) = (tt, anything cs)
 anything (withdrawal p ∷ cs) = anything cs
 anything (merging buffer ∷ cs) = anything cs
+anything (installing ranking buffer ∷ cs) = anything cs
 
 module _ (P : List Entry → Type 0) where
   put : (k : Book) (i : ℕ) (p : List Entry) → P p → EachSlot P k → EachSlot P (set k i (some p))
@@ -109,12 +106,14 @@ module _ (P : List Entry → Type 0) where
         go true = emptied k (p - 1) e
         go false = e
     step-keeps k (merging buffer) b e = e
+    step-keeps k (installing ranking buffer) b e = e
 
     from-keeps : (k : Book) (cs : List Call) → FilesHave Q cs → EachSlot P k → EachSlot P (bookFrom k cs)
     from-keeps k [] b e = e
     from-keeps k (filing p s ∷ cs) b e = from-keeps (bookStep k (filing p s)) cs (b .1) (step-keeps k (filing p s) (b .0, tt) e)
     from-keeps k (withdrawal p ∷ cs) b e = from-keeps (bookStep k (withdrawal p)) cs b (step-keeps k (withdrawal p) tt e)
     from-keeps k (merging buffer ∷ cs) b e = from-keeps k cs b e
+    from-keeps k (installing ranking buffer ∷ cs) b e = from-keeps k cs b e
 
     -- what every accepted filing's list has, every list in force has after any list of calls
     all-in-force : (cs : List Call) → FilesHave Q cs → (q : List Entry) → In q (inForce (bookAfter cs)) → P q

@@ -1,4 +1,4 @@
--- What each call answers, from the book and the call's arguments alone (01, "What is turned down", "The bench", "Merging").
+-- What each call answers, from the book and the call's arguments alone (01, "What is turned down", "The bench", "Merging"; 02, Wish 2).
 use Prim.Native.Nat.{ℕ, _-_}
 use mathlib.Core.Bool.{Bool, true, false, _||_}
 use mathlib.Core.List.{List, [], _∷_}
@@ -12,6 +12,7 @@ use Rattle.policy.specs.Refusals.{Answer, refusal, accepted, refuse, firstOf}
 use Rattle.wire.specs.Format.{filedLimit, countIn}
 use Rattle.region.specs.ListChecks.{listChecks}
 use Rattle.reconcile.specs.Rules.{mergeOf}
+use Rattle.reconcile.specs.Installing.{installOf}
 use Rattle.reconcile.specs.Ending.{endingOf}
 use Rattle.bench.specs.Book.{parties, Book, inForce}
 use Rattle.bench.specs.declared.calls.FileAnswer.{FileAnswer}
@@ -58,3 +59,8 @@ withdrawalOf k p = firstOf (refuse (badParty p) Party ∷ refuse (isVacant (getD
 -- the answer, and the buffer's final contents, for the lists in force (reconcile, specs/Ending.antt)
 abbrev pub mergingOf : Book → List ℕ → Answer × List ℕ
 mergingOf k buffer = endingOf (mergeOf headers (inForce k)) buffer
+
+-- ---- installing: 12, 8, 9, 10, 11
+
+abbrev pub installingOf : Book → List ℕ → List ℕ → Answer × List ℕ
+installingOf k ranking buffer = endingOf (installOf headers ranking (inForce k)) buffer

@@ -8,7 +8,7 @@ use Rattle.policy.specs.Refusals.{Answer, isAccepted}
 use Rattle.wire.specs.Format.{Bytes, listIn}
 use Rattle.bench.specs.declared.calls.Bench.{Bench}
 use Rattle.bench.specs.Book.{Book, emptyBook}
-use Rattle.bench.specs.Answers.{filingOf, withdrawalOf, mergingOf}
+use Rattle.bench.specs.Answers.{filingOf, withdrawalOf, mergingOf, installingOf}
 use Rattle.bench.specs.Held.{vacantSlot, slotWith, bookOf, openBench, withSlot}
 
 -- a call, with what it is handed beside the bench
@@ -16,6 +16,7 @@ pub data Call : Type 0 where
   filing : (party : ℕ) → (bytes : List ℕ) → Call
   withdrawal : (party : ℕ) → Call
   merging : (buffer : List ℕ) → Call
+  installing : (ranking : List ℕ) → (buffer : List ℕ) → Call
 
 -- ---- what each call hands back, as the calls' contracts have it
 
@@ -33,6 +34,7 @@ abbrev pub resultOf : Bench → Call → Result
 resultOf b (filing p s) = (filingOf p s, benchFiled b p s, [])
 resultOf b (withdrawal p) = (withdrawalOf (bookOf b) p, benchWithdrawn b p, [])
 resultOf b (merging buffer) = (mergingOf (bookOf b) buffer .0, b, mergingOf (bookOf b) buffer .1)
+resultOf b (installing ranking buffer) = (installingOf (bookOf b) ranking buffer .0, b, installingOf (bookOf b) ranking buffer .1)
 
 abbrev pub answerTo : Bench → Call → Answer
 answerTo b c = resultOf b c .0
@@ -48,6 +50,7 @@ abbrev pub lentTo : Call → List ℕ
 lentTo (filing p s) = []
 lentTo (withdrawal p) = []
 lentTo (merging buffer) = buffer
+lentTo (installing ranking buffer) = buffer
 
 -- ---- a list of calls
 
@@ -65,6 +68,7 @@ abbrev pub bookStep : Book → Call → Book
 bookStep k (filing p s) = cond (isAccepted (filingOf p s)) (set k (p - 1) (some (listIn s))) k
 bookStep k (withdrawal p) = cond (isAccepted (withdrawalOf k p)) (set k (p - 1) none) k
 bookStep k (merging buffer) = k
+bookStep k (installing ranking buffer) = k
 
 abbrev pub bookFrom : Book → List Call → Book
 bookFrom k [] = k
@@ -81,6 +85,7 @@ FilesHave Q [] = Unit {0}
 FilesHave Q (filing p s ∷ cs) = Q s × FilesHave Q cs
 FilesHave Q (withdrawal p ∷ cs) = FilesHave Q cs
 FilesHave Q (merging buffer ∷ cs) = FilesHave Q cs
+FilesHave Q (installing ranking buffer ∷ cs) = FilesHave Q cs
 
 abbrev pub AllBytes : List Call → Type 0
 AllBytes cs = FilesHave Bytes cs

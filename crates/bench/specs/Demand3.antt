@@ -15,7 +15,7 @@ use Rattle.policy.specs.Refusals.{Answer, refusal, accepted, isAccepted}
 use Rattle.wire.specs.Format.{listIn, fileSize, fileOf}
 use Rattle.wire.specs.Writing.{placed}
 use Rattle.reconcile.specs.Crossproduct.{CorrectReconciliation, Tuple, OrderedCrossproduct, entriesOf}
-use Rattle.reconcile.specs.Rules.{crowded, working, merged, mergeOf, permits, allPermit}
+use Rattle.reconcile.specs.Rules.{crowded, working, Merging, merged, mergeOf, permits, allPermit}
 
 -- no action is common to the header's first matches in all lists in force; action k is bit k
 abbrev pub NoCommonAction : List (List Entry) → Header → Type 0
@@ -32,13 +32,19 @@ abbrev pub WithinLimit : List (List Entry) → Type 0
 WithinLimit [] = ⊥
 WithinLimit (p ∷ ps) = working headers p ps ≡ crowded → ⊥
 
--- m is the list that the rules give; in a long enough buffer the merging is accepted with its file, and in a shorter one refused as narrow
-pub record Accepted (ps : List (List Entry)) (buffer : List ℕ) (answer : Answer) (after : List ℕ) : Type 0 where
+-- the rules give a list; in a long enough buffer the call is accepted with its file, and in a shorter one refused as narrow
+pub record Accepted (rules : Merging) (buffer : List ℕ) (answer : Answer) (after : List ℕ) : Type 0 where
   pub list : List Entry
-  pub by-the-rules : mergeOf headers ps ≡ merged list
+  pub by-the-rules : rules ≡ merged list
   pub long-enough : fileSize (length list) ≤ length buffer
       → (answer ≡ accepted (length list ∷ fileSize (length list) ∷ [])) × (after ≡ placed (fileOf list) buffer)
   pub too-short : length buffer < fileSize (length list) → answer ≡ refusal (Narrow (fileSize (length list)))
+
+-- striking any one entry of m leaves some header uncaught or allowed a different set
+abbrev pub Irredundant : List Entry → Type 0
+Irredundant m =
+    (front : List Entry) (e : Entry) (back : List Entry) → m ≡ front ++ e ∷ back
+    → (h : Header) × (among headers h ≡ true) × ((caught (front ++ back) h ≡ false) ⊎ (allowed (front ++ back) h ≡ allowed m h → ⊥))
 
 -- what is said of the merged list m, of n entries
 pub record MergedList (ps : List (List Entry)) (m : List Entry) (n : ℕ) : Type 0 where
@@ -53,15 +59,14 @@ pub record MergedList (ps : List (List Entry)) (m : List Entry) (n : ℕ) : Type
   -- it is equivalent to every ordered crossproduct of the lists in force (Definitions 17, 18, 23 and 24)
   pub crossproduct : (ts : List Tuple) → OrderedCrossproduct ps ts → Equivalent headers m (entriesOf ps ts)
   -- striking any one of its entries leaves some header uncaught or allowed a different set
-  pub irredundant : (front : List Entry) (e : Entry) (back : List Entry) → m ≡ front ++ e ∷ back
-      → (h : Header) × (among headers h ≡ true) × ((caught (front ++ back) h ≡ false) ⊎ (allowed (front ++ back) h ≡ allowed m h → ⊥))
+  pub irredundant : Irredundant m
 
 pub record Demand3 (ps : List (List Entry)) (buffer : List ℕ) (answer : Answer) (after : List ℕ) : Type 0 where
   -- it is refused for conflict exactly when some header has no action common to its first matches in all lists in force
   pub conflict-named : (h : Header) → WithinLimit ps → (answer ≡ refusal (Conflict h)) ↔ LeastWithout ps h
   pub conflict-found : WithinLimit ps → (h : Header) → among headers h ≡ true → NoCommonAction ps h → (g : Header) × (answer ≡ refusal (Conflict g))
   -- otherwise, in a long enough buffer, it is accepted, with the file that 01's rules give
-  pub otherwise : WithinLimit ps → ((h : Header) → among headers h ≡ true → NoCommonAction ps h → ⊥) → Accepted ps buffer answer after
+  pub otherwise : WithinLimit ps → ((h : Header) → among headers h ≡ true → NoCommonAction ps h → ⊥) → Accepted (mergeOf headers ps) buffer answer after
   -- the merged list is the one read from the start of the buffer, as many bytes as the answer's length says
   pub merged-list : (n l : ℕ) → answer ≡ accepted (n ∷ l ∷ []) → MergedList ps (listIn (take l after)) n
   -- bare and crowded exactly in their cases

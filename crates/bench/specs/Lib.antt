@@ -4,3 +4,5 @@ pub mod Held
 pub mod Calls
 pub mod Demand2
 pub mod Demand3
+pub mod Installing
+pub mod steps

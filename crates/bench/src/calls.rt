@@ -1,22 +1,27 @@
 // The calls on a bench: it is handed to each and handed back.
 use crate::slots::Slot;
-use crate::slots::add_slot;
+use crate::slots::add_slots;
 use crate::slots::slot_with;
 use crate::slots::vacant_slot;
+use policy::ranking::is_ranking;
 use policy::refusal::Refusal;
 use reconcile::ending::Merged;
+use reconcile::ending::end_installing;
 use reconcile::ending::end_merging;
 use reconcile::stage::ROWS;
-use reconcile::stage::no_list;
 use region::covering::check_list;
 use wire::check::Checked;
 ghost use mathlib.Core.Path.{_≡_};
 ghost use mathlib.Core.List.{List, [], _∷_, _++_};
+ghost use Prim.Native.Nat.{ℕ};
+ghost use Rattle.policy.specs.Refusals.{Answer};
+ghost use Rattle.reconcile.specs.steps.Ending.{ending};
 ghost use Rattle.bench.specs.Book.{inForce};
 ghost use Rattle.bench.specs.Answers.{filed, withdrew, mergedAs};
 ghost use Rattle.bench.specs.Held.{openBench};
-ghost use Rattle.bench.specs.Calls.{Call, filing, withdrawal, merging, Result, resultOf, benchAfter, bookAfter};
+ghost use Rattle.bench.specs.Calls.{Call, filing, withdrawal, merging, installing, Result, resultOf, benchAfter, bookAfter};
 ghost use Rattle.bench.specs.Demand3.{Demand3};
+ghost use Rattle.bench.specs.Installing.{Installing};
 
 pub struct Bench {
     pub slots: [Slot; 8],
@@ -52,6 +57,16 @@ pub enum MergeAnswer {
 pub struct MergeResult {
     pub bench: Bench,
     pub answer: MergeAnswer,
+}
+
+// The answer for what was written, or why it was not.
+fn answer_of(m: Merged) -> MergeAnswer
+    ensures { λ r. ⌜ ((b : List ℕ) → _≡_ {A = Answer × List ℕ} (mergedAs r, b) (ending m b)) ⌝ }
+{
+    match m {
+        Merged::Done { count, length } => MergeAnswer::Merged { count, length },
+        Merged::Refused(r) => MergeAnswer::Refused(r),
+    }
 }
 
 impl Bench {
@@ -140,26 +155,35 @@ impl Bench {
             × Demand3 (inForce (bookAfter cs)) (now (out .entry)) (mergedAs (r .answer)) (now (out .exit))) ⌝ }
     {
         let mut rows = [0u32; ROWS];
-        let mut stage = no_list();
-        let mut i: usize = 0;
-        while i < 8 {
-            let slot = self.slots[i];
-            i += 1;
-            if slot.length == 0 {
-                continue;
-            }
-            stage = add_slot(stage, &mut rows, slot);
+        let slots = self.slots;
+        let stage = add_slots(slots, &mut rows);
+        let answer = answer_of(end_merging(stage, &mut rows, out));
+        MergeResult {
+            bench: self,
+            answer,
         }
-        let merged = end_merging(stage, &mut rows, out);
-        match merged {
-            Merged::Done { count, length } => MergeResult {
+    }
+
+    // Merges the lists in force, and installs of each entry the action that a ranking has first, into a lent buffer.
+    pub fn install(self, ranking: &[u8], out: &mut [u8]) -> MergeResult
+        ensures { λ r. ⌜ _≡_ {A = Result} (mergedAs (r .answer), r .bench, now (out .exit)) (resultOf self (installing (now (ranking .entry)) (now (out .entry)))) ⌝ }
+        ensures traced { λ r. ⌜ ((cs : List Call) → benchAfter cs ≡ self
+            → (benchAfter (cs ++ (installing (now (ranking .entry)) (now (out .entry)) ∷ [])) ≡ r .bench)
+            × Installing (now (ranking .entry)) (inForce (bookAfter cs)) (now (out .entry)) (mergedAs (r .answer)) (now (out .exit))) ⌝ }
+    {
+        if !is_ranking(ranking) {
+            return MergeResult {
                 bench: self,
-                answer: MergeAnswer::Merged { count, length },
-            },
-            Merged::Refused(r) => MergeResult {
-                bench: self,
-                answer: MergeAnswer::Refused(r),
-            },
+                answer: MergeAnswer::Refused(Refusal::Ranking),
+            };
+        }
+        let mut rows = [0u32; ROWS];
+        let slots = self.slots;
+        let stage = add_slots(slots, &mut rows);
+        let answer = answer_of(end_installing(stage, &mut rows, ranking, out));
+        MergeResult {
+            bench: self,
+            answer,
         }
     }
 }

@@ -1,18 +1,21 @@
-// The slot of a party: the file that it filed.
+// The slot of a party: the file that it filed; and the working list of all slots.
 use reconcile::stage::ROWS;
 use reconcile::stage::Stage;
 use reconcile::stage::add_list;
+use reconcile::stage::no_list;
 use wire::format::FILED_LIMIT;
 use wire::format::HEAD_SIZE;
 use wire::format::RECORD_SIZE;
 use wire::put::put_bytes;
 ghost use mathlib.Core.Path.{_≡_};
+ghost use mathlib.Core.List.{map};
 ghost use Prim.Native.Nat.{_≤_, min, max};
 ghost use lib.ListN.{length};
 ghost use Rattle.policy.specs.Header.{headers};
 ghost use Rattle.wire.specs.Format.{headSize};
 ghost use Rattle.reconcile.specs.steps.Stage.{stageIn, filedIn, added};
-ghost use Rattle.bench.specs.Held.{slotSize, vacantSlot, slotWith, slotList};
+ghost use Rattle.bench.specs.Held.{slotSize, vacantSlot, slotWith, slotList, listInSlot};
+ghost use Rattle.bench.specs.steps.Staged.{Staged};
 ghost use Rattle.wire.specs.steps.Fits.{AllFit};
 
 // As many bytes as the longest filed list has.
@@ -68,10 +71,27 @@ fn records_end(length: usize) -> usize
 }
 
 // Rules 1 and 2 for the list of a slot. For every value of a slot: no more than its bytes are read.
-pub(crate) fn add_slot(s: Stage, rows: &mut [u32; ROWS], slot: Slot) -> Stage
+fn add_slot(s: Stage, rows: &mut [u32; ROWS], slot: Slot) -> Stage
     ensures { λ r. ⌜ (stageIn r ≡ added headers (stageIn s) (slotList slot)) × AllFit (slotList slot) ⌝ }
 {
     let end = records_end(slot.length);
     let bytes = slot.bytes;
     add_records(s, rows, &bytes[HEAD_SIZE..end])
+}
+
+// Rules 1 and 2 for the lists of all slots. The rows that are lent may hold anything.
+pub(crate) fn add_slots(slots: [Slot; 8], rows: &mut [u32; ROWS]) -> Stage
+    ensures { λ r. ⌜ Staged (map listInSlot slots) (stageIn r) ⌝ }
+{
+    let mut stage = no_list();
+    let mut i: usize = 0;
+    while i < 8 {
+        let slot = slots[i];
+        i += 1;
+        if slot.length == 0 {
+            continue;
+        }
+        stage = add_slot(stage, rows, slot);
+    }
+    stage
 }

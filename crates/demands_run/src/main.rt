@@ -1,4 +1,5 @@
-// Demand 2's round trips and a short list of calls, on two small files. A line has what was answered, and whether the bytes are the file's own.
+// Demand 2's round trips, a short list of calls and installs, on two small files. A line has what was answered, and whether the bytes are the file's own.
+use bench::calls::Bench;
 use bench::calls::MergeAnswer;
 use bench::round_trips::reread_list;
 use bench::round_trips::rewrite_file;
@@ -160,6 +161,17 @@ fn reread() {
     print_same(&out[0..61]);
 }
 
+// How many entries and bytes were written, if any.
+fn print_merge_answer(a: MergeAnswer) {
+    match a {
+        MergeAnswer::Merged { count, length } => {
+            print_number(count);
+            print_number(length);
+        }
+        MergeAnswer::Refused(_) => print(b" refused"),
+    }
+}
+
 // Party 1's list is withdrawn, so party 2's is merged alone; none of its entries can be struck.
 fn merge() {
     let first = EVERYTHING;
@@ -168,13 +180,24 @@ fn merge() {
     let m = file_twice_and_merge(&first, &second, &mut out);
     let answer = m.answer;
     print(b"merged");
-    match answer {
-        MergeAnswer::Merged { count, length } => {
-            print_number(count);
-            print_number(length);
-        }
-        MergeAnswer::Refused(_) => print(b" refused"),
-    }
+    print_merge_answer(answer);
+    print_same(&out[0..61]);
+}
+
+// The list of one party allows bypass for local port 80 with protocol 6, and for all else both discard and bypass. Where discard is best, the second file is
+// installed; where bypass is, the last entry of the two allows all headers that, and is left alone.
+fn install(best: u8, next: u8) {
+    let mut file = WEB_FIRST;
+    file[60] = 3;
+    let ranking = [best, next, 2, 3, 4, 5, 6, 7, 8, 9, 10, 11, 12, 13, 14, 15];
+    let mut out = [7u8; 64];
+    let b0 = Bench::open();
+    let f = b0.file(1, &file);
+    let b1 = f.bench;
+    let m = b1.install(&ranking, &mut out);
+    let answer = m.answer;
+    print(b"installed");
+    print_merge_answer(answer);
     print_same(&out[0..61]);
 }
 
@@ -182,4 +205,7 @@ fn main() {
     rewrite();
     reread();
     merge();
+    install(0, 1);
+    install(1, 0);
+    install(0, 0);
 }

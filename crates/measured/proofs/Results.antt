@@ -1,4 +1,4 @@
--- What the search and the merging hand back for each answer.
+-- What the search, the merging and the installing hand back for each answer.
 -- Assumes nothing.
 use Prim.Native.Nat.{ℕ, _+_, _≤_, _<_}
 use mathlib.Core.Path.{_≡_, sym, _∙_, ap, ap₂}
@@ -24,7 +24,7 @@ use Rattle.bench.specs.declared.calls.Bench.{Bench}
 use Rattle.bench.specs.declared.calls.MergeAnswer.{MergeAnswer}
 use Rattle.bench.specs.declared.calls.MergeAnswer.the-variants as merge
 use Rattle.bench.specs.Answers.{mergedAs}
-use Rattle.bench.specs.Calls.{merging, Result, resultOf, answerTo, lentAfter, benchAfter}
+use Rattle.bench.specs.Calls.{Call, Result, resultOf, answerTo, lentAfter, benchAfter}
 use Rattle.report.specs.Report.{filingsOf}
 use Rattle.measured.specs.steps.Numbers.{mergeNumber, wanted, foundResult, searchResult, measuredSearch}
 
@@ -69,21 +69,19 @@ module _ (file entry buffer : List ℕ) (w v : ℕ) where
         ∙ ap (λ (s : Searched). searchResult (searched s) buffer) (sym q)
         ∙ answers
 
--- ---- the merging
+-- ---- mergings and installings
 
-module _ (input buffer file : List ℕ) (a : MergeAnswer) (b next : Bench) (filed : b ≡ benchAfter (filingsOf input)) (says : _≡_ {A = Result} (mergedAs a, next, file) (resultOf b (merging buffer))) where
-  abbrev merge-handed : Handed
-  merge-handed = (mergeNumber (answerTo (benchAfter (filingsOf input)) (merging buffer)), lentAfter (benchAfter (filingsOf input)) (merging buffer))
+pub merge-counted : (a : MergeAnswer) (n l : ℕ) → a ≡ merge.Merged n l → n ≡ mergeNumber (mergedAs a)
+merge-counted a n l q = ap (λ (a : MergeAnswer). mergeNumber (mergedAs a)) (sym q)
 
-  handed : _≡_ {A = Handed} (mergeNumber (mergedAs a), file) merge-handed
-  handed = ap (λ (x : Result). (mergeNumber (x .0), x .2)) (says ∙ ap (λ (b : Bench). resultOf b (merging buffer)) filed)
+pub merge-refused : (a : MergeAnswer) (r : Refusal) (n : ℕ) → a ≡ merge.Refused r → n ≡ refusal r .number → 256 + n ≡ mergeNumber (mergedAs a)
+merge-refused a r n q m =
+    ap (256 +_) m
+    ∙ sym (ap (λ (t : Bool). cond t (getD (refusal r .values) 0 0) (256 + refusal r .number)) (refusal-refuses r))
+    ∙ ap (λ (a : MergeAnswer). mergeNumber (mergedAs a)) (sym q)
 
-  pub merges : (n l : ℕ) → a ≡ merge.Merged n l → _≡_ {A = Handed} (n, file) merge-handed
-  merges n l q = ap (λ (a : MergeAnswer). (mergeNumber (mergedAs a), file)) (sym q) ∙ handed
-
-  pub merging-refused : (r : Refusal) (n : ℕ) → a ≡ merge.Refused r → n ≡ refusal r .number → _≡_ {A = Handed} (256 + n, file) merge-handed
-  merging-refused r n q m =
-      ap (λ (i : ℕ). (256 + i, file)) m
-      ∙ sym (ap (λ (t : Bool). (cond t (getD (refusal r .values) 0 0) (256 + refusal r .number), file)) (refusal-refuses r))
-      ∙ ap (λ (a : MergeAnswer). (mergeNumber (mergedAs a), file)) (sym q)
-      ∙ handed
+-- what a call on the bench of the filings hands back
+pub handed : (input file : List ℕ) (c : Call) (n : ℕ) (a : MergeAnswer) (b next : Bench) → b ≡ benchAfter (filingsOf input) → _≡_ {A = Result} (mergedAs a, next, file) (resultOf b c) → n ≡ mergeNumber (mergedAs a)
+    → _≡_ {A = Handed} (n, file) (mergeNumber (answerTo (benchAfter (filingsOf input)) c), lentAfter (benchAfter (filingsOf input)) c)
+handed input file c n a b next filed says q =
+    ap (λ (i : ℕ). (i, file)) q ∙ ap (λ (x : Result). (mergeNumber (x .0), x .2)) (says ∙ ap (λ (b : Bench). resultOf b c) filed)

@@ -5,6 +5,7 @@ pub mod Least
 pub mod Box
 pub mod Branch
 pub mod ActionSets
+pub mod Ranked
 pub mod Policy
 pub mod Conjunctions
 pub mod Refusals

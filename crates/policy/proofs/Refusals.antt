@@ -9,7 +9,7 @@ use mathlib.Core.Option.{Option, none, some}
 use lib.Dec.{eqb}
 use lib.ListN.{getD}
 use Rattle.policy.specs.declared.refusal.Refusal.{Refusal}
-use Rattle.policy.specs.declared.refusal.Refusal.the-variants.{Missized, Version, Count, Crossed, Gap, Party, Vacant, Bare, Crowded, Conflict, Narrow}
+use Rattle.policy.specs.declared.refusal.Refusal.the-variants.{Missized, Version, Count, Crossed, Gap, Party, Vacant, Bare, Crowded, Conflict, Narrow, Ranking}
 use Rattle.policy.specs.declared.header.Header.{Header}
 use Rattle.policy.specs.declared.header.Found.{Found}
 use Rattle.policy.specs.declared.header.Found.the-variants.{At, Nothing}
@@ -43,6 +43,7 @@ refusal-number Bare p = omega arith
 refusal-number Crowded p = omega arith
 refusal-number (Conflict h) p = omega arith
 refusal-number (Narrow n) p = omega arith
+refusal-number Ranking p = omega arith
 
 -- a refusal is not an acceptance
 pub refusal-clash {ℓ} : {A : Type ℓ} (r : Refusal) (vs : List ℕ) → refusal r ≡ accepted vs → A
@@ -86,7 +87,8 @@ refusalOf a =
     (cond (eqb n 8) Bare
     (cond (eqb n 9) Crowded
     (cond (eqb n 10) (Conflict named)
-    (Narrow (value 0)))))))))))
+    (cond (eqb n 11) (Narrow (value 0))
+    Ranking))))))))))
   where
     n : ℕ
     n = a .number
@@ -109,6 +111,7 @@ again Bare = refl
 again Crowded = refl
 again (Conflict h) = refl
 again (Narrow n) = refl
+again Ranking = refl
 
 -- refusals with the same number and values are the same
 pub refusal-same : (r s : Refusal) → refusal r ≡ refusal s → r ≡ s
@@ -126,6 +129,7 @@ refusal-refuses Bare = refl
 refusal-refuses Crowded = refl
 refusal-refuses (Conflict h) = refl
 refusal-refuses (Narrow n) = refl
+refusal-refuses Ranking = refl
 
 pub refuse-refuses : (b : Bool) (r : Refusal) (rs : List (Option Answer)) → Refuse rs → Refuse (refuse b r ∷ rs)
 refuse-refuses true r rs f = (refusal-refuses r, f)

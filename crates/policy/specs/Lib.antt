@@ -5,6 +5,7 @@ pub mod Header
 pub mod Found
 pub mod Least
 pub mod Actions
+pub mod Ranking
 pub mod Entry
 pub mod Sides
 pub mod Policy

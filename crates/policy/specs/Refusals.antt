@@ -1,4 +1,4 @@
--- 01, "What is turned down": the table of refusals, and answers in its terms.
+-- 01, "What is turned down", and the refusals that 02 adds: the table, and answers in its terms.
 use Prim.Native.Nat.{ℕ}
 use mathlib.Core.Bool.{Bool, true, false}
 use mathlib.Core.List.{List, [], _∷_}
@@ -8,7 +8,7 @@ use Rattle.policy.specs.declared.header.Header.{Header}
 use Rattle.policy.specs.declared.header.Found.{Found}
 use Rattle.policy.specs.declared.header.Found.the-variants.{At, Nothing}
 use Rattle.policy.specs.declared.refusal.Refusal.{Refusal}
-use Rattle.policy.specs.declared.refusal.Refusal.the-variants.{Missized, Version, Count, Crossed, Gap, Party, Vacant, Bare, Crowded, Conflict, Narrow}
+use Rattle.policy.specs.declared.refusal.Refusal.the-variants.{Missized, Version, Count, Crossed, Gap, Party, Vacant, Bare, Crowded, Conflict, Narrow, Ranking}
 
 -- an answer in 01's terms: the number of the refusal, 0 where there is none, and the values that the answer carries
 pub record Answer : Type 0 where
@@ -32,6 +32,7 @@ refusal Bare = record { number = 8; values = [] }
 refusal Crowded = record { number = 9; values = [] }
 refusal (Conflict h) = record { number = 10; values = numbers h }
 refusal (Narrow n) = record { number = 11; values = n ∷ [] }
+refusal Ranking = record { number = 12; values = [] }
 
 abbrev pub accepted : List ℕ → Answer
 accepted vs = record { number = 0; values = vs }

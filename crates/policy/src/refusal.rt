@@ -1,4 +1,4 @@
-// What is turned down: 01's table, in its order and by its words.
+// What is turned down: the tables of 01 and 02, in their order and by their words.
 use crate::header::Header;
 ghost use mathlib.Core.Path.{_≡_};
 ghost use Rattle.policy.specs.Refusals.{refusal};
@@ -19,9 +19,10 @@ pub enum Refusal {
     Conflict(Header),
     // The length needed.
     Narrow(usize),
+    Ranking,
 }
 
-// 01's number of a refusal.
+// The number of a refusal.
 pub fn number_of(r: Refusal) -> u8
     ensures { λ n. ⌜ n ≡ refusal r .number ⌝ }
 {
@@ -37,5 +38,6 @@ pub fn number_of(r: Refusal) -> u8
         Refusal::Crowded => 9,
         Refusal::Conflict(_) => 10,
         Refusal::Narrow(_) => 11,
+        Refusal::Ranking => 12,
     }
 }

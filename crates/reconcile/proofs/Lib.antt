@@ -8,11 +8,14 @@ pub mod Judged
 pub mod Crossproduct
 pub mod Lexicographic
 pub mod Merging
+pub mod Installing
 pub mod Theorems
 pub mod Beside
 pub mod Keeping
 pub mod Pairs
 pub mod Staging
 pub mod Finishing
+pub mod Settling
+pub mod Choosing
 pub mod Writing
 pub mod Model

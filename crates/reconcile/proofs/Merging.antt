@@ -21,11 +21,11 @@ use Rattle.policy.proofs.Least.{agree, least-at, at-tells, none-tells}
 use Rattle.wire.specs.Format.{listLimit}
 use Rattle.reconcile.specs.Crossproduct.{AllCovering, Reconciles}
 use Rattle.reconcile.specs.Rules.{noHeader, same, isEmpty, inBoth, commonWith, commonActions, permits, allPermit, cross, dropEmpty, trimmed, Working, list, crowded, limited, next, nextAll, working, hasEmpty, lacking, conflictOf, needless, struckFrom, struck, Merging, refused, merged, finished, mergeOf}
-use Rattle.reconcile.proofs.Decide.{Witness, witness, noHeader-agree}
+use Rattle.reconcile.proofs.Decide.{Witness, noHeader-agree}
 use Rattle.reconcile.proofs.Common.{common-reconciles, common-widest, common-caught, common-permits}
 use Rattle.reconcile.proofs.Crossing.{cross-is}
 use Rattle.reconcile.proofs.Drop.{trimmed-allows, EachCatching, shown, empty-is}
-use Rattle.reconcile.proofs.Striking.{struck-allows, struck-needs}
+use Rattle.reconcile.proofs.Striking.{struck-allows, struck-irredundant}
 
 -- ---- how many are left
 
@@ -36,6 +36,9 @@ struckFrom-few hs front (e ∷ p) = go (struckFrom hs (front ++ e ∷ []) p) (ne
     go : (back : List Entry) (b : Bool) → length back ≤ length p → length (cond b back (e ∷ back)) ≤ length (e ∷ p)
     go back true l = omega arith
     go back false l = omega arith
+
+pub struck-few : (hs : Headers) (p : List Entry) → length (struck hs p) ≤ length p
+struck-few hs p = struckFrom-few hs [] p
 
 -- ---- the working list
 
@@ -131,7 +134,7 @@ pub record Merges (hs : Headers) (p : List Entry) (ps : List (List Entry)) (m : 
   pub no-conflict : conflictOf hs (p ∷ ps) ≡ Nothing
   pub left : m ≡ struck hs work
 
-abbrev unmerged : Merging → List Entry
+abbrev pub unmerged : Merging → List Entry
 unmerged (refused r) = []
 unmerged (merged m) = m
 
@@ -167,9 +170,8 @@ module _ (hs : Headers) (p : List Entry) (ps : List (List Entry)) (m : List Entr
       → Witness hs (λ h. not (same (allowed (front ++ back) h) (allowed m h)))
   merged-irredundant front d back q =
       let r = merges hs p ps m e in
-      subst (λ (l : List Entry). Witness hs (λ h. not (same (allowed (front ++ back) h) (allowed l h)))) (sym q)
-      (witness hs (λ h. not (same (allowed (front ++ back) h) (allowed (front ++ d ∷ back) h)))
-      (struck-needs hs (r .work) front d back (sym (r .left) ∙ q)))
+      subst (λ (l : List Entry). Witness hs (λ h. not (same (allowed (front ++ back) h) (allowed l h)))) (sym (r .left))
+      (struck-irredundant hs (r .work) front d back (sym (r .left) ∙ q))
 
   -- it is covering if all are
   pub merged-covers : AllCovering hs (p ∷ ps) → Covering hs m
@@ -185,7 +187,7 @@ module _ (hs : Headers) (p : List Entry) (ps : List (List Entry)) (m : List Entr
   pub merged-few : length m ≤ listLimit
   merged-few =
       let r = merges hs p ps m e in
-      subst (λ (l : List Entry). length l ≤ listLimit) (sym (r .left)) (fewer (length (struck hs (r .work))) (length (r .work)) listLimit (struckFrom-few hs [] (r .work)) (working-few hs p ps (r .work) (r .worked)))
+      subst (λ (l : List Entry). length l ≤ listLimit) (sym (r .left)) (fewer (length (struck hs (r .work))) (length (r .work)) listLimit (struck-few hs (r .work)) (working-few hs p ps (r .work) (r .worked)))
     where
       fewer : (a b c : ℕ) → a ≤ b → b ≤ c → a ≤ c
       fewer a b c x y = omega arith

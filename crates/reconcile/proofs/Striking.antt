@@ -12,7 +12,7 @@ use Rattle.policy.proofs.Bool.{clash, is-false, not-true, not-false, and-intro,
 use Rattle.policy.proofs.Policy.{orNext, allowed-append}
 use Rattle.reconcile.specs.Rules.{same, Collected, needless, struckFrom, struck}
 use Rattle.reconcile.specs.steps.Tests.{collected}
-use Rattle.reconcile.proofs.Decide.{none-by, nowhere, witness, somewhere, noHeader-agree}
+use Rattle.reconcile.proofs.Decide.{Witness, none-by, nowhere, witness, somewhere, noHeader-agree}
 use Rattle.reconcile.proofs.Common.{same-self, same-tells, same-by}
 use Rattle.reconcile.proofs.Drop.{missed-less, Each, each-wider, each-at}
 
@@ -101,3 +101,10 @@ module _ (hs : Headers) where
   struck-needs p ds e bs q =
       needless-is hs ds e bs
       ∙ somewhere hs (λ h. missed ds h && Differs e bs h) (each-at hs Differs [] ds e bs (subst (Each hs Differs []) q (needed [] p)))
+
+  -- without any one of them some header is uncaught, or allowed a different set
+  pub struck-irredundant : (p ds : List Entry) (e : Entry) (bs : List Entry) → struck hs p ≡ ds ++ e ∷ bs
+      → Witness hs (λ h. not (same (allowed (ds ++ bs) h) (allowed (struck hs p) h)))
+  struck-irredundant p ds e bs q =
+      subst (λ (l : List Entry). Witness hs (λ h. not (same (allowed (ds ++ bs) h) (allowed l h)))) (sym q)
+      (witness hs (λ h. not (same (allowed (ds ++ bs) h) (allowed (ds ++ e ∷ bs) h))) (struck-needs p ds e bs q))

@@ -1,34 +1,34 @@
--- The end of a merging: what striking leaves of the working list is written.
+-- The end of a merging or an installing: what it comes to is written.
 -- Assumes nothing.
-use Prim.Native.Nat.{ℕ, _+_, _*_, _-_, _<_, _≤_}
-use mathlib.Core.Path.{_≡_, refl, sym, _∙_, ap, ap₂}
-use mathlib.Core.Bool.{Bool, true, false, cond}
-use mathlib.Core.List.{List, [], _∷_}
-use mathlib.Core.Option.{none, some}
+use Prim.Native.Nat.{ℕ, _+_, _*_, _<_, _≤_}
+use mathlib.Core.Path.{_≡_, refl, sym, _∙_, ap}
+use mathlib.Core.Bool.{Bool, true, false, not, cond}
+use mathlib.Core.List.{List, [], _∷_, map}
 use lib.Dec.{ltb}
-use lib.ListN.{length, take}
+use lib.ListN.{length}
+use lib.Seq.{slice}
 use borrow.Author.Tests.{lt-ltb, le-ltb}
-use Rattle.policy.specs.declared.header.Header.{Header}
 use Rattle.policy.specs.declared.header.Found.{Found}
 use Rattle.policy.specs.declared.header.Found.the-variants.{At, Nothing}
 use Rattle.policy.specs.declared.entry.Entry.{Entry}
-use Rattle.policy.specs.declared.refusal.Refusal.the-variants.{Bare, Crowded, Conflict, Narrow}
-use Rattle.policy.specs.Header.{Headers, headers}
-use Rattle.policy.specs.Least.{least}
-use Rattle.policy.specs.Policy.{allowed}
+use Rattle.policy.specs.declared.refusal.Refusal.{Refusal}
+use Rattle.policy.specs.declared.refusal.Refusal.the-variants.{Bare, Crowded, Conflict, Narrow, Ranking}
+use Rattle.policy.specs.Header.{Headers}
+use Rattle.policy.specs.Ranking.{isRanking}
 use Rattle.policy.specs.Refusals.{Answer, refusal, accepted, refuse, refuseAt, firstOf}
-use Rattle.policy.specs.steps.Rows.{rowSize, rowsIn}
-use Rattle.wire.specs.Format.{headSize, recordSize, listLimit, fileSize, fileOf}
+use Rattle.policy.proofs.Refusals.{refusal-refuses}
+use Rattle.wire.specs.Format.{headSize, recordSize, fileSize, fileOf}
 use Rattle.wire.specs.Answers.{ifAccepted}
 use Rattle.wire.specs.Writing.{placed, tooNarrow}
-use Rattle.reconcile.specs.declared.stage.Stage.{Stage}
+use Rattle.reconcile.specs.declared.settle.Verdict.{Verdict}
+use Rattle.reconcile.specs.declared.settle.Verdict.the-variants as verdict
+use Rattle.reconcile.specs.declared.settle.Settled.{Settled}
 use Rattle.reconcile.specs.declared.ending.Merged.the-variants.{Done, Refused}
-use Rattle.reconcile.specs.Rules.{isEmpty, Working, list, crowded, working, conflictOf, struck, Merging, merged, settled, finished, mergeOf}
-use Rattle.reconcile.specs.steps.Stage.{workingIn, stageIn, ended}
+use Rattle.reconcile.specs.Rules.{Working, list, crowded, working, conflictOf, struck, Merging, refused, merged, finished, mergeOf}
+use Rattle.reconcile.specs.Installing.{withBest, installed, installOf}
+use Rattle.reconcile.specs.Ending.{answerOf, endingOf, isCrowded, leftOf, workingOf, mergeChecks, installChecks}
+use Rattle.reconcile.specs.steps.Settled.{judgedAs, settledAs}
 use Rattle.reconcile.specs.steps.Ending.{ending}
-use Rattle.reconcile.specs.Ending.{answerOf, endingOf, isCrowded, leftOf, workingOf, mergeChecks}
-use Rattle.reconcile.proofs.Beside.{lent-front, Beside}
-use Rattle.reconcile.proofs.Keeping.{working-crowded, working-list}
 
 -- ---- writing
 
@@ -52,54 +52,61 @@ module _ (p : List Entry) (b : List ℕ) (n : ℕ) (z : length p ≡ n) where
       (answer-is
       ∙ ap (λ (t : Bool). firstOf (refuse t (Narrow (fileSize n)) ∷ []) (accepted (n ∷ fileSize n ∷ []))) (le-ltb (length b) (fileSize n) l)))
 
--- ---- a working list of n entries is brought to its end
+-- ---- what a merging comes to is written
 
-module _ (s : List ℕ) (es : List Entry) (n : ℕ) (b : List ℕ) (f : Found) (x : Beside s es n) (l : rowSize * n ≤ length s)
-    (q : f ≡ least headers (λ h. isEmpty (allowed (rowsIn (take (rowSize * n - 0) s)) h))) where
-  ends-as : ended headers (some (list (take n es))) ≡ settled headers f (take n es)
-  ends-as =
-      ap (λ (p : List Entry). settled headers (least headers λ h. isEmpty (allowed p h)) (take n es)) (sym (lent-front s n l ∙ x))
-      ∙ ap (λ (g : Found). settled headers g (take n es)) (sym q)
+module _ (s : Settled) (b : List ℕ) where
+  pub wrote-refused : (r : Refusal) → s .verdict ≡ verdict.Refused r → ending (Refused r) b ≡ endingOf (settledAs s) b
+  wrote-refused r e =
+      ap (λ (t : Bool). (refusal r, cond t b b)) (sym (refusal-refuses r))
+      ∙ ap (λ (v : Verdict). endingOf (judgedAs v (slice (s .left .first) (s .end) (s .left .entries))) b) (sym e)
 
-  pub ends-conflict : (h : Header) → f ≡ At h → ending (Refused (Conflict h)) b ≡ endingOf (ended headers (some (list (take n es)))) b
-  ends-conflict h e = sym (ap (λ (m : Merging). endingOf m b) (ends-as ∙ ap (λ (g : Found). settled headers g (take n es)) e))
+  pub wrote-merged : (a : Answer × List ℕ) → s .verdict ≡ verdict.Merges → a ≡ endingOf (merged (slice (s .left .first) (s .end) (s .left .entries))) b → a ≡ endingOf (settledAs s) b
+  wrote-merged a e q = q ∙ ap (λ (v : Verdict). endingOf (judgedAs v (slice (s .left .first) (s .end) (s .left .entries))) b) (sym e)
 
-  pub ends-merged : (p : List Entry) (y : Answer × List ℕ) → f ≡ Nothing → p ≡ struck headers (take n es) → y ≡ endingOf (merged p) b
-      → y ≡ endingOf (ended headers (some (list (take n es)))) b
-  ends-merged p y e k z =
-      z
-      ∙ ap (λ (l : List Entry). endingOf (merged l) b) k
-      ∙ sym (ap (λ (m : Merging). endingOf m b) (ends-as ∙ ap (λ (g : Found). settled headers g (take n es)) e))
+-- the same of a merging that it is
+pub wrote-as : (a : Answer × List ℕ) (b : List ℕ) (m n : Merging) → a ≡ endingOf m b → m ≡ n → a ≡ endingOf n b
+wrote-as a b m n p q = p ∙ ap (λ (x : Merging). endingOf x b) q
 
--- ---- so is a stage
+-- ---- the answer is that of the checks in their order
 
-module _ (x : Stage) (b : List ℕ) where
-  pub ends-bare : x .bare ≡ true → ending (Refused Bare) b ≡ endingOf (ended headers (stageIn x)) b
-  ends-bare e = ap (λ (t : Bool). endingOf (ended headers (cond t none (some (workingIn (x .entries) (x .count))))) b) (sym e)
-
-  kept : (w : Working) → x .bare ≡ false → workingIn (x .entries) (x .count) ≡ w → endingOf (ended headers (some w)) b ≡ endingOf (ended headers (stageIn x)) b
-  kept w e y = sym (ap₂ (λ (t : Bool) (w : Working). endingOf (ended headers (cond t none (some w))) b) e y)
-
-  pub ends-crowded : x .bare ≡ false → listLimit < x .count → ending (Refused Crowded) b ≡ endingOf (ended headers (stageIn x)) b
-  ends-crowded e l = kept crowded e (working-crowded (x .entries) (x .count) l)
-
-  pub ends-list : (a : Answer × List ℕ) → x .bare ≡ false → x .count ≤ listLimit → a ≡ endingOf (ended headers (some (list (take (x .count) (x .entries))))) b
-      → a ≡ endingOf (ended headers (stageIn x)) b
-  ends-list a e l y = y ∙ kept (list (take (x .count) (x .entries))) e (working-list (x .entries) (x .count) l)
-
--- ---- the answer is that of the checks in 01's order
-
-pub checks-in-order : (hs : Headers) (ps : List (List Entry)) (b : List ℕ)
-    → answerOf (mergeOf hs ps) b
-    ≡ firstOf (mergeChecks hs ps b) (accepted (length (leftOf hs (workingOf hs ps)) ∷ fileSize (length (leftOf hs (workingOf hs ps))) ∷ []))
-checks-in-order hs [] b = refl
-checks-in-order hs (p ∷ ps) b = go (working hs p ps) (conflictOf hs (p ∷ ps))
+-- where n entries are left of a working list, the file is theirs
+in-order : (hs : Headers) (ps : List (List Entry)) (b : List ℕ) (left : List Entry → List Entry) (f : Merging → Merging)
+    → ((r : Refusal) → f (refused r) ≡ refused r) → ((m : List Entry) → f (merged m) ≡ merged (left m))
+    → answerOf (f (mergeOf hs ps)) b
+    ≡ firstOf (mergeChecks hs ps (length (left (leftOf hs (workingOf hs ps)))) b) (accepted (length (left (leftOf hs (workingOf hs ps))) ∷ fileSize (length (left (leftOf hs (workingOf hs ps)))) ∷ []))
+in-order hs [] b left f u v = ap (λ (m : Merging). answerOf m b) (u Bare)
+in-order hs (p ∷ ps) b left f u v = go (working hs p ps) (conflictOf hs (p ∷ ps))
   where
     go : (w : Working) (c : Found)
-        → answerOf (finished hs w c) b
+        → answerOf (f (finished hs w c)) b
         ≡ firstOf
-        (refuse false Bare ∷ refuse (isCrowded w) Crowded ∷ refuseAt Conflict c ∷ tooNarrow (length (leftOf hs w)) b ∷ [])
-        (accepted (length (leftOf hs w) ∷ fileSize (length (leftOf hs w)) ∷ []))
-    go crowded c = refl
-    go (list w) (At h) = refl
-    go (list w) Nothing = refl
+        (refuse false Bare ∷ refuse (isCrowded w) Crowded ∷ refuseAt Conflict c ∷ tooNarrow (length (left (leftOf hs w))) b ∷ [])
+        (accepted (length (left (leftOf hs w)) ∷ fileSize (length (left (leftOf hs w))) ∷ []))
+    go crowded c = ap (λ (m : Merging). answerOf m b) (u Crowded)
+    go (list w) (At h) = ap (λ (m : Merging). answerOf m b) (u (Conflict h))
+    go (list w) Nothing = ap (λ (m : Merging). answerOf m b) (v (struck hs w))
+
+-- merging: 8, 9, 10, 11
+pub checks-in-order : (hs : Headers) (ps : List (List Entry)) (b : List ℕ)
+    → answerOf (mergeOf hs ps) b
+    ≡ firstOf
+    (mergeChecks hs ps (length (leftOf hs (workingOf hs ps))) b)
+    (accepted (length (leftOf hs (workingOf hs ps)) ∷ fileSize (length (leftOf hs (workingOf hs ps))) ∷ []))
+checks-in-order hs ps b = in-order hs ps b (λ m. m) (λ m. m) (λ r. refl) (λ m. refl)
+
+-- installing: 12, 8, 9, 10, 11
+pub install-checks-in-order : (hs : Headers) (ranking : List ℕ) (ps : List (List Entry)) (b : List ℕ)
+    → answerOf (installOf hs ranking ps) b
+    ≡ firstOf
+    (installChecks hs ranking ps (length (struck hs (map (withBest ranking) (leftOf hs (workingOf hs ps))))) b)
+    (accepted (length (struck hs (map (withBest ranking) (leftOf hs (workingOf hs ps)))) ∷ fileSize (length (struck hs (map (withBest ranking) (leftOf hs (workingOf hs ps))))) ∷ []))
+install-checks-in-order hs ranking ps b = go (isRanking ranking)
+  where
+    n : ℕ
+    n = length (struck hs (map (withBest ranking) (leftOf hs (workingOf hs ps))))
+
+    go : (t : Bool)
+        → answerOf (cond t (installed hs ranking (mergeOf hs ps)) (refused Ranking)) b
+        ≡ firstOf (refuse (not t) Ranking ∷ mergeChecks hs ps n b) (accepted (n ∷ fileSize n ∷ []))
+    go true = in-order hs ps b (λ m. struck hs (map (withBest ranking) m)) (installed hs ranking) (λ r. refl) (λ m. refl)
+    go false = refl

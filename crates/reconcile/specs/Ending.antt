@@ -1,12 +1,13 @@
--- Refusals 8 to 11 and the merged file (01, "What is turned down" and "Merging").
+-- Refusals 8 to 12 and the file that is written (01, "What is turned down" and "Merging"; 02, Wish 2).
 use Prim.Native.Nat.{ℕ}
-use mathlib.Core.Bool.{Bool, true, false}
+use mathlib.Core.Bool.{Bool, true, false, not}
 use mathlib.Core.List.{List, [], _∷_}
 use mathlib.Core.Option.{Option}
 use lib.ListN.{length}
 use Rattle.policy.specs.declared.entry.Entry.{Entry}
-use Rattle.policy.specs.declared.refusal.Refusal.the-variants.{Bare, Crowded, Conflict}
+use Rattle.policy.specs.declared.refusal.Refusal.the-variants.{Bare, Crowded, Conflict, Ranking}
 use Rattle.policy.specs.Header.{Headers}
+use Rattle.policy.specs.Ranking.{isRanking}
 use Rattle.policy.specs.Refusals.{Answer, refusal, accepted, refuse, refuseAt, firstOf}
 use Rattle.wire.specs.Format.{fileSize, fileOf}
 use Rattle.wire.specs.Answers.{ifAccepted}
@@ -46,11 +47,15 @@ abbrev pub workingOf : Headers → List (List Entry) → Working
 workingOf hs [] = list []
 workingOf hs (p ∷ ps) = working hs p ps
 
--- 8, 9, 10, 11
-abbrev pub mergeChecks : Headers → List (List Entry) → List ℕ → List (Option Answer)
-mergeChecks hs ps buffer =
+-- 8, 9, 10, and 11 for a file of n entries
+abbrev pub mergeChecks : Headers → List (List Entry) → ℕ → List ℕ → List (Option Answer)
+mergeChecks hs ps n buffer =
     refuse (noList ps) Bare
     ∷ refuse (isCrowded (workingOf hs ps)) Crowded
     ∷ refuseAt Conflict (conflictOf hs ps)
-    ∷ tooNarrow (length (leftOf hs (workingOf hs ps))) buffer
+    ∷ tooNarrow n buffer
     ∷ []
+
+-- 12, 8, 9, 10, and 11 for a file of n entries
+abbrev pub installChecks : Headers → List ℕ → List (List Entry) → ℕ → List ℕ → List (Option Answer)
+installChecks hs ranking ps n buffer = refuse (not (isRanking ranking)) Ranking ∷ mergeChecks hs ps n buffer

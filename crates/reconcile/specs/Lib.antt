@@ -1,4 +1,5 @@
 pub mod Crossproduct
 pub mod Rules
+pub mod Installing
 pub mod Ending
 pub mod steps

@@ -1,5 +1,6 @@
 pub mod Pass
 pub mod Stage
+pub mod Settled
 pub mod Tests
 pub mod Catching
 pub mod Ending

@@ -1,30 +1,28 @@
-// The end of a merging: rules 3 and 4, and the file.
+// The end of a merging or an installing: the file.
+use crate::install::install_best;
+use crate::settle::Settled;
+use crate::settle::Verdict;
+use crate::settle::settle_stage;
 use crate::stage::ROWS;
 use crate::stage::Stage;
 use crate::strike::Struck;
-use crate::strike::least_conflict;
-use crate::strike::strike_entries;
-use policy::entry::Entry;
-use policy::header::Found;
 use policy::refusal::Refusal;
-use policy::sides::ROW;
 use wire::format::HEAD_SIZE;
-use wire::format::LIST_LIMIT;
 use wire::format::RECORD_SIZE;
-use wire::rows::put_row;
 use wire::write::put_entries;
 ghost use mathlib.Core.Path.{_≡_};
-ghost use mathlib.Core.Option.{some};
-ghost use Prim.Native.Nat.{_*_, _≤_};
-ghost use lib.ListN.{length, take};
+ghost use mathlib.Core.Bool.{true};
+ghost use Prim.Native.Nat.{_≤_};
 ghost use lib.Seq.{slice};
 ghost use Rattle.policy.specs.Header.{headers};
-ghost use Rattle.policy.specs.steps.Rows.{rowSize, rowsFrom};
+ghost use Rattle.policy.specs.Ranking.{isRanking};
 ghost use Rattle.wire.specs.Format.{listLimit};
-ghost use Rattle.reconcile.specs.Rules.{list, merged};
-ghost use Rattle.reconcile.specs.steps.Stage.{stageIn, ended};
-ghost use Rattle.reconcile.specs.steps.Ending.{ending};
+ghost use Rattle.reconcile.specs.Rules.{merged};
+ghost use Rattle.reconcile.specs.Installing.{installed};
 ghost use Rattle.reconcile.specs.Ending.{endingOf};
+ghost use Rattle.reconcile.specs.steps.Stage.{stageIn, ended};
+ghost use Rattle.reconcile.specs.steps.Settled.{settledAs, InOrder};
+ghost use Rattle.reconcile.specs.steps.Ending.{ending};
 
 pub enum Merged {
     // The file's entry count and length.
@@ -51,28 +49,18 @@ fn write_merged(left: Struck, n: usize, buffer: &mut [u8]) -> Merged
     }
 }
 
-// Puts the rows of the first n entries.
-fn put_rows(entries: [Entry; LIST_LIMIT], n: usize, rows: &mut [u32])
-    requires { ⌜ (n ≤ listLimit) × (length (now rows) ≡ rowSize * listLimit) ⌝ }
-    ensures { λ _. ⌜ rowsFrom (now (rows .exit)) 0 n ≡ take n entries ⌝ }
+// Writes the list that a merging comes to, unless it is refused.
+fn write_settled(s: Settled, buffer: &mut [u8]) -> Merged
+    requires { ⌜ InOrder s ⌝ }
+    ensures { λ r. ⌜ ending r (now (buffer .exit)) ≡ endingOf (settledAs s) (now (buffer .entry)) ⌝ }
 {
-    let mut i: usize = 0;
-    while i < n {
-        let e = entries[i];
-        put_row(rows, ROW * i, e);
-        i += 1;
-    }
-}
-
-// Rules 3 and 4 for a working list of n entries, and the file of what is left.
-fn end_list(entries: [Entry; LIST_LIMIT], n: usize, rows: &mut [u32], buffer: &mut [u8]) -> Merged
-    requires { ⌜ (n ≤ listLimit) × (length (now rows) ≡ rowSize * listLimit) ⌝ }
-    ensures { λ r. ⌜ ending r (now (buffer .exit)) ≡ endingOf (ended headers (some (list (take n entries)))) (now (buffer .entry)) ⌝ }
-{
-    put_rows(entries, n, rows);
-    match least_conflict(&rows[0..ROW * n]) {
-        Found::At(h) => Merged::Refused(Refusal::Conflict(h)),
-        Found::Nothing => write_merged(strike_entries(entries, n, rows), n, buffer),
+    let verdict = s.verdict;
+    match verdict {
+        Verdict::Refused(r) => Merged::Refused(r),
+        Verdict::Merges => {
+            let left = s.left;
+            write_merged(left, s.end, buffer)
+        }
     }
 }
 
@@ -80,12 +68,14 @@ fn end_list(entries: [Entry; LIST_LIMIT], n: usize, rows: &mut [u32], buffer: &m
 pub fn end_merging(s: Stage, rows: &mut [u32; ROWS], buffer: &mut [u8]) -> Merged
     ensures { λ r. ⌜ ending r (now (buffer .exit)) ≡ endingOf (ended headers (stageIn s)) (now (buffer .entry)) ⌝ }
 {
-    if s.bare {
-        return Merged::Refused(Refusal::Bare);
-    }
-    if LIST_LIMIT < s.count {
-        return Merged::Refused(Refusal::Crowded);
-    }
-    let entries = s.entries;
-    end_list(entries, s.count, rows, buffer)
+    write_settled(settle_stage(s, rows), buffer)
+}
+
+// The same for the installed list.
+pub fn end_installing(s: Stage, rows: &mut [u32; ROWS], ranking: &[u8], buffer: &mut [u8]) -> Merged
+    requires { ⌜ isRanking (now ranking) ≡ true ⌝ }
+    ensures { λ r. ⌜ ending r (now (buffer .exit)) ≡ endingOf (installed headers (now (ranking .entry)) (ended headers (stageIn s))) (now (buffer .entry)) ⌝ }
+{
+    let settled = settle_stage(s, rows);
+    write_settled(install_best(settled, ranking, rows), buffer)
 }

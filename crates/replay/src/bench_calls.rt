@@ -15,6 +15,7 @@ use crate::input::number1;
 use crate::print::print_bytes;
 use crate::print::print_end;
 use bench::calls::Bench;
+use bench::calls::MergeResult;
 
 pub struct Step {
     pub bench: Bench,
@@ -55,15 +56,20 @@ pub(crate) fn withdraw(b: Bench, s: &[u8], at: usize) -> Step {
     Step { bench, end }
 }
 
-// Merges into a lent buffer.
-fn merge_into(b: Bench, buffer: &mut [u8]) -> Bench {
-    let r = b.merge(buffer);
+// The line of a merging or an installing into a lent buffer. Answers the bench.
+fn print_merging(r: MergeResult, buffer: &[u8]) -> Bench {
     let answer = r.answer;
     merged(answer);
     print_bytes(buffer);
     print_end();
     let bench = r.bench;
     bench
+}
+
+// Merges into a lent buffer.
+fn merge_into(b: Bench, buffer: &mut [u8]) -> Bench {
+    let r = b.merge(buffer);
+    print_merging(r, buffer)
 }
 
 pub(crate) fn merge(b: Bench, s: &[u8], at: usize) -> Step {
@@ -75,5 +81,24 @@ pub(crate) fn merge(b: Bench, s: &[u8], at: usize) -> Step {
     let filling = buffer_filling(s, at);
     let mut buffer = [filling; BUFFER_LIMIT];
     let bench = merge_into(b, &mut buffer[0..n]);
+    Step { bench, end }
+}
+
+// Installs into a lent buffer.
+fn install_into(b: Bench, ranking: &[u8], buffer: &mut [u8]) -> Bench {
+    let r = b.install(ranking, buffer);
+    print_merging(r, buffer)
+}
+
+pub(crate) fn install(b: Bench, s: &[u8], at: usize) -> Step {
+    let lent = bytes_end(s, at);
+    let end = buffer_end(s, lent);
+    if end == NOWHERE {
+        return Step { bench: b, end };
+    }
+    let n = buffer_length(s, lent);
+    let filling = buffer_filling(s, lent);
+    let mut buffer = [filling; BUFFER_LIMIT];
+    let bench = install_into(b, bytes(s, at), &mut buffer[0..n]);
     Step { bench, end }
 }

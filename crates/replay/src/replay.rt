@@ -1,6 +1,7 @@
 // A list of calls, each on the bench that the last one returned.
 use crate::bench_calls::Step;
 use crate::bench_calls::file;
+use crate::bench_calls::install;
 use crate::bench_calls::merge;
 use crate::bench_calls::open;
 use crate::bench_calls::withdraw;
@@ -45,6 +46,7 @@ fn call(b: Bench, number: u8, s: &[u8], at: usize) -> Step {
         1 => file(b, s, at),
         2 => withdraw(b, s, at),
         3 => merge(b, s, at),
+        11 => install(b, s, at),
         _ => {
             let end = call_beside(number, s, at);
             Step { bench: b, end }

@@ -7,7 +7,7 @@ use lib.ListN.{length, getD, take, drop, replicate}
 use Rattle.policy.specs.Refusals.{Answer, isAccepted}
 use Rattle.wire.specs.Format.{headSize, recordSize, listLimit, fileSize, lengthIn, headerBytes}
 use Rattle.bench.specs.Answers.{filingOf, mergingOf}
-use Rattle.bench.specs.Calls.{Call, filing, withdrawal, merging, bookAfter}
+use Rattle.bench.specs.Calls.{Call, filing, withdrawal, merging, installing, bookAfter}
 use Rattle.report.specs.Text.{ascii, decimal, hex}
 
 -- ---- the input: records of one party byte, then a file
@@ -54,6 +54,7 @@ filingLines [] = []
 filingLines (filing p s ∷ cs) = filingLine p (filingOf p s) ++ filingLines cs
 filingLines (withdrawal p ∷ cs) = filingLines cs
 filingLines (merging b ∷ cs) = filingLines cs
+filingLines (installing k b ∷ cs) = filingLines cs
 
 -- n records, each on its own line
 abbrev pub recordLines : ℕ → List ℕ → List ℕ

@@ -7,7 +7,7 @@ use denote.Enum.Declared.{tagOf}
 use types.Run.{OneOf, miss}
 use borrow.Author.Needs.{needs}
 use Rattle.policy.specs.declared.refusal.Refusal.{Refusal}
-use Rattle.policy.specs.declared.refusal.Refusal.the-variants.{Missized, Version, Count, Crossed, Gap, Party, Vacant, Bare, Crowded, Conflict, Narrow}
+use Rattle.policy.specs.declared.refusal.Refusal.the-variants.{Missized, Version, Count, Crossed, Gap, Party, Vacant, Bare, Crowded, Conflict, Narrow, Ranking}
 use Rattle.policy.proofs.refusal.Refusal as enum
 use Rattle.policy.specs.Refusals.{refusal}
 use Rattle.report.specs.Report.{detail}
@@ -18,7 +18,7 @@ use Rattle.report.proofs.line.put_detail.Tie as tie
 
 -- the tags of the refusals that carry nothing to print
 abbrev others : List ℕ
-others = 0 ∷ 1 ∷ 2 ∷ 5 ∷ 6 ∷ 7 ∷ 8 ∷ 10 ∷ []
+others = 0 ∷ 1 ∷ 2 ∷ 5 ∷ 6 ∷ 7 ∷ 8 ∷ 10 ∷ 11 ∷ []
 
 no-detail : (r : Refusal) → OneOf others (tagOf enum.the-type r) → detail (refusal r) ≡ []
 no-detail Missized k = refl
@@ -32,6 +32,7 @@ no-detail Bare k = refl
 no-detail Crowded k = refl
 no-detail (Conflict h) k = absurd (miss others 9 tt k)
 no-detail (Narrow n) k = refl
+no-detail Ranking k = refl
 
 enum-known-r : tie.Need-enum-known-r
 enum-known-r c = search needs

@@ -1,8 +1,8 @@
--- A header without an action is a conflict; else what striking leaves is written.
+-- A header without an action is a conflict; else striking leaves the merged list.
 use borrow.Author.Needs.{needs}
-use Rattle.reconcile.proofs.Writing.{ends-conflict, ends-merged}
-use Rattle.reconcile.proofs.ending.end_list.Statement.{statement}
-use Rattle.reconcile.proofs.ending.end_list.Tie as tie
+use Rattle.reconcile.proofs.Settling.{settles-conflict, settles-merged}
+use Rattle.reconcile.proofs.settle.settle_list.Statement.{statement}
+use Rattle.reconcile.proofs.settle.settle_list.Tie as tie
 
 put-rows-requires : tie.Need-put-rows-requires
 put-rows-requires c κs = search needs
@@ -25,14 +25,14 @@ least-conflict-requires c κs = search needs
 enum-known-h : tie.Need-enum-known-h
 enum-known-h c = search needs
 
+refuse-list-requires : tie.Need-refuse-list-requires
+refuse-list-requires c κs = search needs
+
 enum-told : tie.Need-enum-told
 enum-told c = search needs
 
 strike-entries-requires : tie.Need-strike-entries-requires
 strike-entries-requires c κs = search needs
-
-write-merged-requires : tie.Need-write-merged-requires
-write-merged-requires c κs = search needs
 
 same-length : tie.Need-same-length
 same-length c = search needs
@@ -40,21 +40,21 @@ same-length c = search needs
 returns : tie.Need-returns
 returns c =
     let g = c .before .before .before .before .before .before .before .before .before .before .before .before in
-    search (ends-conflict _ (g .args .entries) (g .args .n) (g .args .buffer .now) _ (c .before .before .before .before .before .before .before .before .put-rows .ensures) (search needs) (c .before .before .before .least-conflict .ensures))
+    let told = c .before .before .before .before .least-conflict .ensures in
+    (settles-conflict _ (g .args .entries) (g .args .n) _ (c .before .before .before .before .before .before .before .before .before .put-rows .ensures) (search needs) told _ _ (search needs) (c .refuse-list .ensures .0), c .refuse-list .ensures .1)
 
 same-length-2 : tie.Need-same-length-2
 same-length-2 c = search needs
 
-same-length-3 : tie.Need-same-length-3
-same-length-3 c = search needs
-
 returns-2 : tie.Need-returns-2
 returns-2 c =
-    let g = c .before .before .before .before .before .before .before .before .before .before .before .before .before .before .before .before .before .before .before in
-    search (ends-merged _ (g .args .entries) (g .args .n) (g .args .buffer .now) _ (c .before .before .before .before .before .before .before .before .before .before .before .before .before .before .before .put-rows .ensures) (search needs) (c .before .before .before .before .before .before .before .before .before .before .least-conflict .ensures))
+    let g = c .before .before .before .before .before .before .before .before .before .before .before .before .before .before in
+    let told = c .before .before .before .before .before .before .least-conflict .ensures in
+    let left = c .before .before .strike-entries .ensures in
+    (settles-merged _ (g .args .entries) (g .args .n) _ (c .before .before .before .before .before .before .before .before .before .before .before .put-rows .ensures) (search needs) told _ (search needs) (left .1), record { onward = left .0; few = g .pre .0 })
 
-pub end-list-spec : {M : Type 1} → statement M
-end-list-spec =
+pub settle-list-spec : {M : Type 1} → statement M
+settle-list-spec =
     tie.close
     (tie.spec
     put-rows-requires
@@ -64,11 +64,10 @@ end-list-spec =
     part-least-conflict-end
     least-conflict-requires
     enum-known-h
+    refuse-list-requires
     enum-told
     strike-entries-requires
-    write-merged-requires
     same-length
     returns
     same-length-2
-    same-length-3
     returns-2)
