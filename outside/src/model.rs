@@ -1,5 +1,5 @@
-//! Document 01 once more, with Wish 1 of 02, written from their text for clarity, as the other side of
-//! the tests. It shares no algorithm with the product: what the product finds by cutting boxes is
+//! Document 01 once more, with Wishes 1 and 2 of 02, written from their text for clarity, as the other
+//! side of the tests. It shares no algorithm with the product: what the product finds by cutting boxes is
 //! found here by walking the cells between all ends of ranges, field by field, in the order of headers.
 
 use crate::entry::{is_header, Box5, Entry, Header, List, ALL, BOX, FIELDS, RECORD, TOP, WIDTH};
@@ -21,10 +21,11 @@ pub enum Refusal {
     Crowded,
     Conflict(Header),
     Narrow(usize),
+    Ranking,
 }
 
 impl Refusal {
-    /// The number in 01's table.
+    /// The number in 01's table, or in 02.
     pub fn number(&self) -> u32 {
         match self {
             Refusal::Missized => 1,
@@ -38,6 +39,7 @@ impl Refusal {
             Refusal::Crowded => 9,
             Refusal::Conflict(_) => 10,
             Refusal::Narrow(_) => 11,
+            Refusal::Ranking => 12,
         }
     }
 }
@@ -285,6 +287,16 @@ fn file_of(list: &[Entry]) -> Vec<u8> {
     bytes
 }
 
+/// Puts a list's file at the start of a lent buffer, if it has room: the file's length.
+fn put_file(list: &[Entry], buffer: &mut [u8]) -> Result<usize, Refusal> {
+    let file = file_of(list);
+    if buffer.len() < file.len() {
+        return Err(Refusal::Narrow(file.len()));
+    }
+    buffer[..file.len()].copy_from_slice(&file);
+    Ok(file.len())
+}
+
 /// Writing a list into a lent buffer: the file's length.
 pub fn write(list: &[Entry], buffer: &mut [u8]) -> Result<usize, Refusal> {
     if list.is_empty() || list.len() > LIST_LIMIT {
@@ -293,12 +305,7 @@ pub fn write(list: &[Entry], buffer: &mut [u8]) -> Result<usize, Refusal> {
     if let Some(i) = list.iter().position(|e| is_crossed(&e.selector)) {
         return Err(Refusal::Crossed(i));
     }
-    let file = file_of(list);
-    if buffer.len() < file.len() {
-        return Err(Refusal::Narrow(file.len()));
-    }
-    buffer[..file.len()].copy_from_slice(&file);
-    Ok(file.len())
+    put_file(list, buffer)
 }
 
 /// The same for a list of `count` entries, of which no more than the first 256 are at hand.
@@ -460,21 +467,55 @@ fn can_be_struck(list: &[Entry], k: usize) -> bool {
     differing.is_none()
 }
 
+/// Rule 4: what is left of a list.
+fn struck(mut list: List) -> List {
+    for k in (0..list.len()).rev() {
+        if can_be_struck(&list, k) {
+            list.remove(k);
+        }
+    }
+    list
+}
+
 /// Merging of covering lists: rules 1 to 4.
 pub fn merged_list(lists: &[&[Entry]]) -> Result<List, Refusal> {
-    let mut list = working_list(lists)?;
+    let list = working_list(lists)?;
     let conflict = least_conflict(lists);
     // Rule 3 and demand 3 say the same in two ways.
     assert_eq!(conflict.is_some(), list.iter().any(|e| e.actions == 0));
     if let Some(header) = conflict {
         return Err(Refusal::Conflict(header));
     }
-    for k in (0..list.len()).rev() {
-        if can_be_struck(&list, k) {
-            list.remove(k);
-        }
+    Ok(struck(list))
+}
+
+// ---------------------------------------------------------------- installing
+
+/// A ranking has so many actions: all that a set can have.
+pub const ACTIONS: usize = 16;
+
+/// Check 12: in some order, the bytes are the numbers 0 to 15.
+fn check_ranking(ranking: &[u8]) -> Result<(), Refusal> {
+    let mut numbers = ranking.to_vec();
+    numbers.sort();
+    match numbers.iter().copied().eq(0..ACTIONS as u8) {
+        true => Ok(()),
+        false => Err(Refusal::Ranking),
     }
-    Ok(list)
+}
+
+/// The best-ranked action of a set, alone.
+fn best_alone(set: u16, ranking: &[u8]) -> u16 {
+    let mut alone = ranking.iter().map(|action| 1 << action);
+    alone.find(|one| set & one != 0).expect("a merged set is not empty")
+}
+
+/// Installing of covering lists: merging, one action of each set, and rule 4 once more.
+pub fn installed_list(lists: &[&[Entry]], ranking: &[u8]) -> Result<List, Refusal> {
+    check_ranking(ranking)?;
+    let mut list = merged_list(lists)?;
+    list.iter_mut().for_each(|e| e.actions = best_alone(e.actions, ranking));
+    Ok(struck(list))
 }
 
 // ---------------------------------------------------------------- the bench
@@ -507,16 +548,21 @@ impl Bench {
         }
     }
 
+    /// The lists in force, in the parties' order.
+    fn in_force(&self) -> Vec<&[Entry]> {
+        self.slots.iter().flatten().map(|list| &list[..]).collect()
+    }
+
     /// The merged list's entry count and its file's length.
     pub fn merge(&self, buffer: &mut [u8]) -> Result<(usize, usize), Refusal> {
-        let lists: Vec<&[Entry]> = self.slots.iter().flatten().map(|list| &list[..]).collect();
-        let list = merged_list(&lists)?;
-        let file = file_of(&list);
-        if buffer.len() < file.len() {
-            return Err(Refusal::Narrow(file.len()));
-        }
-        buffer[..file.len()].copy_from_slice(&file);
-        Ok((list.len(), file.len()))
+        let list = merged_list(&self.in_force())?;
+        Ok((list.len(), put_file(&list, buffer)?))
+    }
+
+    /// The installed list's entry count and its file's length.
+    pub fn install(&self, ranking: &[u8], buffer: &mut [u8]) -> Result<(usize, usize), Refusal> {
+        let list = installed_list(&self.in_force(), ranking)?;
+        Ok((list.len(), put_file(&list, buffer)?))
     }
 }
 

@@ -1,4 +1,5 @@
-//! Rules 1 to 4 of Merging taken word by word, by walking a small header space point by point.
+//! Rules 1 to 4 of Merging, and installing, taken word by word, by walking a small header space point
+//! by point.
 //! A small list's ranges are made of four parts of each field. So one number of each part tells all
 //! headers apart that such lists can tell apart; of protocols, one with ports and one without.
 
@@ -85,6 +86,29 @@ fn cross(p: &[Entry], q: &[Entry]) -> List {
     pairs
 }
 
+/// The actions that all lists allow a header; they are covering.
+pub fn common_actions(lists: &[List], h: &Header) -> u16 {
+    let sets = lists.iter().map(|list| allowed(list, h).unwrap());
+    sets.fold(0xffff, |common, set| common & set)
+}
+
+/// Whether a list without its entry `k` allows every header the same.
+pub fn is_needless(list: &[Entry], k: usize, points: &[Header]) -> bool {
+    let mut without = list.to_vec();
+    without.remove(k);
+    points.iter().all(|h| allowed(list, h) == allowed(&without, h))
+}
+
+/// What is left of a list by rule 4.
+pub fn struck(mut list: List, points: &[Header]) -> List {
+    for k in (0..list.len()).rev() {
+        if is_needless(&list, k, points) {
+            list.remove(k);
+        }
+    }
+    list
+}
+
 /// What merging the lists gives; they are covering.
 pub fn merged(lists: &[List], points: &[Header]) -> Result<List, Refusal> {
     let (first, others) = lists.split_first().ok_or(Refusal::Bare)?;
@@ -96,19 +120,40 @@ pub fn merged(lists: &[List], points: &[Header]) -> Result<List, Refusal> {
         }
     }
     if working.iter().any(|e| e.actions == 0) {
-        let conflict = |h: &Header| {
-            let sets = lists.iter().map(|list| allowed(list, h).unwrap());
-            sets.fold(0xffff, |common, set| common & set) == 0
-        };
-        let header = points.iter().copied().find(conflict);
+        let header = points.iter().copied().find(|h| common_actions(lists, h) == 0);
         return Err(Refusal::Conflict(header.expect("an entry without actions catches a header")));
     }
-    for k in (0..working.len()).rev() {
-        let mut without = working.clone();
-        without.remove(k);
-        if points.iter().all(|h| allowed(&working, h) == allowed(&without, h)) {
-            working = without;
-        }
+    Ok(struck(working, points))
+}
+
+// ---------------------------------------------------------------- installing
+
+/// Whether the bytes are the actions' numbers, 0 to 15, once each.
+fn is_ranking(bytes: &[u8]) -> bool {
+    let times = |number: u8| bytes.iter().filter(|b| **b == number).count();
+    bytes.len() == 16 && (0..16).all(|number| times(number) == 1)
+}
+
+/// The action of a set that has the foremost place in a ranking, alone.
+pub fn foremost(set: u16, ranking: &[u8]) -> u16 {
+    let place = |action: &u8| ranking.iter().position(|ranked| ranked == action);
+    let actions = (0..16).filter(|action| set >> action & 1 == 1);
+    1 << actions.min_by_key(place).expect("an action")
+}
+
+/// A list that keeps the foremost action of each entry.
+pub fn keeping_foremost(list: &[Entry], ranking: &[u8]) -> List {
+    list.iter().map(|e| Entry { actions: foremost(e.actions, ranking), ..*e }).collect()
+}
+
+/// What installing gives, where merging the same lists gives `merged`.
+pub fn installed(
+    merged: Result<List, Refusal>,
+    ranking: &[u8],
+    points: &[Header],
+) -> Result<List, Refusal> {
+    if !is_ranking(ranking) {
+        return Err(Refusal::Ranking);
     }
-    Ok(working)
+    Ok(struck(keeping_foremost(&merged?, ranking), points))
 }
