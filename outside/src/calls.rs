@@ -3,19 +3,20 @@
 use crate::entry::{file, Entry, Header, List, ALL, RECORD};
 use crate::generate::{
     any_list, box_near, cross_one, crowd, damaged, header_near, long_list, realistic_list,
-    related_list, small_list, some_file, some_list, some_party, some_sets, Filings, Sets,
+    related_list, small_list, some_file, some_list, some_party, some_ranking, some_sets, Filings,
+    Sets, RISING,
 };
-use crate::model::{catching, Bench, LIST_LIMIT, LONGEST_FILE};
+use crate::model::{catching, Bench, Refusal, LIST_LIMIT, LONGEST_FILE};
 use crate::random::Random;
 use crate::replay::{answer, Buffer, Bytes, Call, Wanted, LONGEST_BUFFER, LONGEST_TABLE};
 
-/// Filings, withdrawals and mergings of small lists, refused ones among them.
+/// Filings, withdrawals, mergings and installs of small lists, refused ones among them.
 pub fn bench_calls(random: &mut Random) -> Vec<Call> {
     let parties = random.between(1, 4);
     let sets = some_sets(random);
-    (0..random.between(1, 14))
-        .map(|_| match random.below(8) {
-            0..=3 => {
+    (0..random.between(1, 16))
+        .map(|_| match random.below(10) {
+            0..=4 => {
                 let list = small_list(random.between(1, 5) as usize, sets, random);
                 let bytes = match random.below(6) {
                     0 => damaged(&list, random),
@@ -23,14 +24,21 @@ pub fn bench_calls(random: &mut Random) -> Vec<Call> {
                 };
                 Call::File { party: some_party(parties, random), file: Bytes(bytes) }
             }
-            4 => Call::Withdraw { party: some_party(parties, random) },
-            _ => {
-                let entries = random.below(12) as usize;
-                let length = *random.pick(&[7173, 5 + RECORD * entries, 4 + RECORD * entries]);
-                Call::Merge { buffer: Buffer { length, fill: 0xaa } }
-            }
+            5 => Call::Withdraw { party: some_party(parties, random) },
+            6 | 7 => Call::Merge { buffer: room_for_some(random) },
+            _ => Call::Install {
+                ranking: Bytes(some_ranking(random)),
+                buffer: room_for_some(random),
+            },
         })
         .collect()
+}
+
+/// A buffer for the longest file, or for one of a few entries, or one byte shorter.
+fn room_for_some(random: &mut Random) -> Buffer {
+    let entries = random.below(12) as usize;
+    let length = *random.pick(&[LONGEST_FILE, 5 + RECORD * entries, 4 + RECORD * entries]);
+    Buffer { length, fill: 0xaa }
 }
 
 // ---------------------------------------------------------------- lists of every call
@@ -74,7 +82,8 @@ pub fn call_list(count: usize, random: &mut Random) -> CallList {
     CallList { calls, ending }
 }
 
-/// The calls so far, and the bench that they have made: what a merging needs depends on it.
+/// The calls so far, and the bench that they have made: what a merging or an install needs depends on
+/// it.
 struct Made<'a> {
     random: &'a mut Random,
     filings: Filings,
@@ -97,7 +106,7 @@ impl Made<'_> {
 
     fn some_call(&mut self) -> Call {
         let random = &mut *self.random;
-        match random.below(40) {
+        match random.below(44) {
             0..=11 => self.filing(),
             12..=14 => Call::Withdraw { party: some_party(self.filings.parties, random) },
             15..=19 => self.merging(),
@@ -122,6 +131,7 @@ impl Made<'_> {
                 Call::LookupInC { file, header }
             }
             37 | 38 => comparison_in_c(random),
+            39..=42 => self.installing(),
             _ => Call::Open,
         }
     }
@@ -138,11 +148,24 @@ impl Made<'_> {
     }
 
     fn merging(&mut self) -> Call {
-        let needed = match self.bench.merge(&mut [0; LONGEST_FILE]) {
-            Ok((_, length)) => length,
-            Err(_) => 5 + RECORD,
-        };
+        let needed = length_or_one_entry(self.bench.merge(&mut [0; LONGEST_FILE]));
         Call::Merge { buffer: room(needed, self.random) }
+    }
+
+    fn installing(&mut self) -> Call {
+        let ranking = some_ranking(self.random);
+        self.installing_by(ranking)
+    }
+
+    /// Often the buffer is too short for the merged file alone.
+    fn installing_by(&mut self, ranking: Vec<u8>) -> Call {
+        let merged = length_or_one_entry(self.bench.merge(&mut [0; LONGEST_FILE]));
+        let needed = length_or_one_entry(self.bench.install(&ranking, &mut [0; LONGEST_FILE]));
+        let mut buffer = room(needed, self.random);
+        if needed < merged && self.random.one_in(3) {
+            buffer.length = self.random.between(needed as u32, merged as u32 - 1) as usize;
+        }
+        Call::Install { ranking: Bytes(ranking), buffer }
     }
 
     /// A filing by each party.
@@ -153,8 +176,8 @@ impl Made<'_> {
         }
     }
 
-    /// Filings whose working list has about 256 entries, by some of the eight parties, and a
-    /// merging.
+    /// Filings whose working list has about 256 entries, by some of the eight parties, a merging and an
+    /// install.
     fn file_crowd(&mut self) {
         let lists = crowd(self.random);
         let mut parties: Vec<u8> = (1..=8).collect();
@@ -168,7 +191,17 @@ impl Made<'_> {
         }
         let merging = self.merging();
         self.push(merging);
+        let installing = match self.random.one_in(2) {
+            true => self.installing_by(RISING.to_vec()),
+            false => self.installing(),
+        };
+        self.push(installing);
     }
+}
+
+/// The length of the file that an accepted merging or install writes, else that of one entry's file.
+fn length_or_one_entry(answer: Result<(usize, usize), Refusal>) -> usize {
+    answer.map_or(5 + RECORD, |(_, length)| length)
 }
 
 // ---------------------------------------------------------------- arguments
@@ -320,13 +353,14 @@ fn bad_ending(random: &mut Random) -> Vec<u8> {
         fill: 0,
     };
     let (file, header) = looked_up(random);
-    let mut bytes = match random.below(8) {
+    let mut bytes = match random.below(9) {
         0 | 1 => return cut_short(random),
-        2 => vec![*random.pick(&[11, 12, 18, 21, 22, 128, 255])],
+        2 => vec![*random.pick(&[12, 13, 18, 21, 22, 128, 255])],
         3 => Call::Merge { buffer: too_long }.bytes(),
         4 => Call::Rewrite { file, buffer: too_long }.bytes(),
         5 => Call::CompareInC { first: file.clone(), second: file, buffer: too_long }.bytes(),
-        6 => {
+        6 => Call::Install { ranking: Bytes(some_ranking(random)), buffer: too_long }.bytes(),
+        7 => {
             let entry = Entry { selector: box_near(&[], random), actions: 1 };
             let n = LONGEST_TABLE + 1;
             Call::LookupInTable { table: vec![entry; n], header }.bytes()
@@ -344,12 +378,16 @@ fn bad_ending(random: &mut Random) -> Vec<u8> {
 
 /// Some bytes of a call, not all.
 fn cut_short(random: &mut Random) -> Vec<u8> {
-    let call = match random.below(6) {
+    let call = match random.below(7) {
         0 => rewriting(random),
         1 => writing(random),
         2 => table_lookup(random),
         3 => searching(random),
         4 => comparison_in_c(random),
+        5 => {
+            let buffer = room(5 + RECORD, random);
+            Call::Install { ranking: Bytes(some_ranking(random)), buffer }
+        }
         _ => Call::Withdraw { party: 1 },
     };
     let mut bytes = call.bytes();

@@ -751,6 +751,46 @@ pub fn box_near(list: &[Entry], random: &mut Random) -> Box5 {
     b
 }
 
+// ---------------------------------------------------------------- rankings
+
+/// The actions in the order of their bits.
+pub const RISING: [u8; 16] = [0, 1, 2, 3, 4, 5, 6, 7, 8, 9, 10, 11, 12, 13, 14, 15];
+
+/// All actions in any order.
+pub fn good_ranking(random: &mut Random) -> Vec<u8> {
+    let mut ranking = RISING.to_vec();
+    random.shuffle(&mut ranking);
+    ranking
+}
+
+/// Bytes that are no order of all actions, each for one reason.
+pub fn bad_ranking(random: &mut Random) -> Vec<u8> {
+    let mut ranking = good_ranking(random);
+    let i = random.below(16) as usize;
+    match random.below(8) {
+        0 => ranking.clear(),
+        1 => drop(ranking.pop()),
+        2 => ranking.push(random.between(0, 16) as u8),
+        // As many as 16 in the last eight bits.
+        3 => ranking.resize(16 + 256, 0),
+        4 => ranking[i] = ranking[(i + random.between(1, 15) as usize) % 16],
+        5 => ranking[i] = 16,
+        6 => ranking[i] = 255,
+        // The same in the last four bits.
+        _ => ranking[i] += 16 * random.between(1, 15) as u8,
+    }
+    ranking
+}
+
+/// Mostly a ranking, now and then bytes that are none.
+pub fn some_ranking(random: &mut Random) -> Vec<u8> {
+    match random.below(8) {
+        0 | 1 => bad_ranking(random),
+        2 => RISING.to_vec(),
+        _ => good_ranking(random),
+    }
+}
+
 // ---------------------------------------------------------------- filings, inputs of the program
 
 /// Single ports then ALL, as in 01's example of 256 and 272 entries; or single numbers of another field.
@@ -803,6 +843,12 @@ pub const CROWDS: [&[(usize, usize)]; 10] = [
     &[(1, 1), (3, 21), (4, 22)],
 ];
 
+/// The actions whose numbers have a bit. Where some lists leave out all others, each by its own bit, the
+/// least action left is the one whose number has these bits alone.
+fn actions_with_bit(bit: usize) -> u16 {
+    (0..16).filter(|action| action >> bit & 1 == 1).map(|action| 1 << action).sum()
+}
+
 /// Lists whose working list has about 256 entries; most agree, some are in conflict.
 pub fn crowd(random: &mut Random) -> Vec<List> {
     let mut lists: Vec<List> = match random.below(12) {
@@ -810,11 +856,17 @@ pub fn crowd(random: &mut Random) -> Vec<List> {
         8..=10 => lists_at_limit(random.between(0, 3)).to_vec(),
         _ => (0..2).map(|_| family(Shape::Slabs(5), Closing::All, 24, random)).collect(),
     };
-    if random.one_in(3) {
-        // Only the last entries leave an action out, each another, so that nothing can be struck.
+    // Only the last entries leave actions out, each others, so that nothing can be struck: of the one
+    // kind by merging, of the other not by installing either, with the actions in rising order.
+    let last_sets: Option<fn(usize) -> u16> = match random.below(6) {
+        0 => Some(|own| !(1 << own)),
+        1 => Some(|own| actions_with_bit(own % 4)),
+        _ => None,
+    };
+    if let Some(last_set) = last_sets {
         for (own, list) in lists.iter_mut().enumerate() {
             list.iter_mut().for_each(|e| e.actions = 0xffff);
-            list.last_mut().expect("not empty").actions = !(1 << own);
+            list.last_mut().expect("not empty").actions = last_set(own);
         }
     } else {
         let sets = some_sets(random);

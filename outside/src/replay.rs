@@ -58,6 +58,7 @@ pub enum Call {
     LookupInTable { table: List, header: Header },
     Compare { first: Bytes, second: Bytes },
     Search { file: Bytes, within: Box5, wanted: Wanted },
+    Install { ranking: Bytes, buffer: Buffer },
     LookupInC { file: Bytes, header: Header },
     CompareInC { first: Bytes, second: Bytes, buffer: Buffer },
 }
@@ -94,6 +95,7 @@ impl Call {
             Call::LookupInTable { .. } => 8,
             Call::Compare { .. } => 9,
             Call::Search { .. } => 10,
+            Call::Install { .. } => 11,
             Call::LookupInC { .. } => 19,
             Call::CompareInC { .. } => 20,
         }
@@ -119,6 +121,7 @@ impl Call {
             Call::Search { file, within, wanted } => {
                 vec![lent(file), box_bytes(within), wish(wanted)]
             }
+            Call::Install { ranking, buffer } => vec![lent(ranking), room(buffer)],
             Call::CompareInC { first, second, buffer } => {
                 vec![lent(first), lent(second), room(buffer)]
             }
@@ -200,6 +203,7 @@ impl<'a> Rest<'a> {
             10 => {
                 Call::Search { file: self.lent()?, within: self.within()?, wanted: self.wanted()? }
             }
+            11 => Call::Install { ranking: self.lent()?, buffer: self.buffer()? },
             19 => Call::LookupInC { file: self.lent()?, header: self.header()? },
             20 => Call::CompareInC {
                 first: self.lent()?,
@@ -279,6 +283,11 @@ fn search(file: &[u8], within: &Box5, wanted: &Wanted) -> Answer {
     Ok(model::search(file, within, want)?.map(header_values).unwrap_or_default())
 }
 
+/// An entry count and a file's length.
+fn counted((count, length): (usize, usize)) -> Vec<usize> {
+    vec![count, length]
+}
+
 /// An entry's number, nothing for uncaught.
 fn caught(entry: Option<usize>) -> Vec<usize> {
     entry.into_iter().collect()
@@ -293,9 +302,7 @@ pub fn answer(bench: &mut Bench, call: &Call) -> String {
         }
         Call::File { party, file } => answer_line(bench.file(*party, &file.0).map(|n| vec![n])),
         Call::Withdraw { party } => answer_line(bench.withdraw(*party).map(|()| vec![])),
-        Call::Merge { buffer } => {
-            lending(buffer, |bytes| bench.merge(bytes).map(|(count, length)| vec![count, length]))
-        }
+        Call::Merge { buffer } => lending(buffer, |bytes| bench.merge(bytes).map(counted)),
         Call::Rewrite { file, buffer } => {
             lending(buffer, |bytes| model::rewrite(&file.0, bytes).map(|length| vec![length]))
         }
@@ -309,6 +316,9 @@ pub fn answer(bench: &mut Bench, call: &Call) -> String {
         }
         Call::Compare { first, second } => compare_line(&first.0, &second.0),
         Call::Search { file, within, wanted } => answer_line(search(&file.0, within, wanted)),
+        Call::Install { ranking, buffer } => {
+            lending(buffer, |bytes| bench.install(&ranking.0, bytes).map(counted))
+        }
         Call::LookupInC { file, header } => {
             answer_line(Ok(vec![model::lookup_number(&file.0, header) as usize]))
         }

@@ -1,13 +1,15 @@
-//! The model against the examples of 01 and of Wish 1, against the point-by-point walk of small header
-//! spaces, and its bench against the history of calls.
+//! The model against the examples of 01, of Wish 1 and of Wish 2, against the point-by-point walk of
+//! small header spaces, and its bench against the history of calls.
 
 use outside::calls::{bench_calls, call_list};
 use outside::entry::{file, is_header, Box5, Entry, Header, List, ALL};
 use outside::generate::{box_near, only, shaped_list, single_ports, small_list, Sets, CROWDS};
-use outside::model::{self, holds, Bench, Refusal, Want};
+use outside::generate::{some_ranking, RISING};
+use outside::model::{self, allowed, holds, Bench, Refusal, Want};
 use outside::points::{combinations, is_small, least_uncaught, merged, points, small_box};
+use outside::points::{common_actions, foremost, installed, is_needless, keeping_foremost, struck};
 use outside::random::Random;
-use outside::replay::{replayed, Call};
+use outside::replay::{replayed, Buffer, Call};
 use outside::report::Cases;
 
 const DISCARD: u16 = 1;
@@ -18,9 +20,43 @@ fn entry(selector: Box5, actions: u16) -> Entry {
     Entry { selector, actions }
 }
 
+fn slices(lists: &[List]) -> Vec<&[Entry]> {
+    lists.iter().map(|list| &list[..]).collect()
+}
+
 fn merge_of(lists: &[List]) -> Result<List, Refusal> {
-    let lists: Vec<&[Entry]> = lists.iter().map(|l| &l[..]).collect();
-    model::merged_list(&lists)
+    model::merged_list(&slices(lists))
+}
+
+fn install_of(lists: &[List], ranking: &[u8]) -> Result<List, Refusal> {
+    model::installed_list(&slices(lists), ranking)
+}
+
+/// Local port 80 with TCP.
+fn web() -> Box5 {
+    let mut web = only(2, 80, 80);
+    (web.low[4], web.high[4]) = (6, 6);
+    web
+}
+
+/// The subnet of 004's appendix, and its part of the above.
+const SUBNET: (u32, u32) = (0x0a01_0000, 0x0a01_ffff);
+
+fn subnet_web() -> Box5 {
+    let mut subnet_web = web();
+    (subnet_web.low[1], subnet_web.high[1]) = SUBNET;
+    subnet_web
+}
+
+/// Policies A, with a set for ICMP, and B of 004's appendix.
+fn appendix(icmp_actions: u16) -> [List; 2] {
+    let a = vec![
+        entry(only(1, SUBNET.0, SUBNET.1), BYPASS | ESP | DISCARD),
+        entry(only(4, 6, 6), ESP | DISCARD),
+        entry(only(4, 1, 1), icmp_actions),
+        entry(ALL, DISCARD),
+    ];
+    [a, vec![entry(web(), BYPASS | ESP), entry(ALL, DISCARD)]]
 }
 
 fn examples(cases: &mut Cases) {
@@ -30,9 +66,7 @@ fn examples(cases: &mut Cases) {
     let p1 = vec![entry(ALL, DISCARD | BYPASS)];
     cases.same(looked_up(&p1, [0; 5]), Ok(Some(0)), none);
 
-    let mut web = only(2, 80, 80);
-    (web.low[4], web.high[4]) = (6, 6);
-    let p2 = vec![entry(web, BYPASS), entry(ALL, DISCARD)];
+    let p2 = vec![entry(web(), BYPASS), entry(ALL, DISCARD)];
     cases.same(looked_up(&p2, [0, 0, 80, 0, 6]), Ok(Some(0)), none);
     cases.same(looked_up(&p2, [0, 0, 79, 0, 6]), Ok(Some(1)), none);
     cases.same(looked_up(&p2, [0, 0, 81, 0, 6]), Ok(Some(1)), none);
@@ -53,28 +87,14 @@ fn examples(cases: &mut Cases) {
     let p6 = [vec![entry(ALL, BYPASS)], vec![entry(ALL, DISCARD)]];
     cases.same(merge_of(&p6), Err(Refusal::Conflict([0; 5])), none);
 
-    // Policies A and B of 004's appendix.
-    let (tcp, icmp, subnet) = (only(4, 6, 6), only(4, 1, 1), only(1, 0x0a01_0000, 0x0a01_ffff));
-    let mut subnet_web = web;
-    (subnet_web.low[1], subnet_web.high[1]) = (0x0a01_0000, 0x0a01_ffff);
-    let a = |icmp_actions| {
-        vec![
-            entry(subnet, BYPASS | ESP | DISCARD),
-            entry(tcp, ESP | DISCARD),
-            entry(icmp, icmp_actions),
-            entry(ALL, DISCARD),
-        ]
-    };
-    let b = vec![entry(web, BYPASS | ESP), entry(ALL, DISCARD)];
-    let p7 = [a(BYPASS), b.clone()];
-    cases.same(merge_of(&p7), Err(Refusal::Conflict([0, 0, 0, 0, 1])), none);
-    let p8 = [a(BYPASS | DISCARD), b];
-    let three = vec![entry(subnet_web, BYPASS | ESP), entry(web, ESP), entry(ALL, DISCARD)];
-    cases.same(merge_of(&p8), Ok(three), none);
+    cases.same(merge_of(&appendix(BYPASS)), Err(Refusal::Conflict([0, 0, 0, 0, 1])), none);
+    let three = vec![entry(subnet_web(), BYPASS | ESP), entry(web(), ESP), entry(ALL, DISCARD)];
+    cases.same(merge_of(&appendix(BYPASS | DISCARD)), Ok(three), none);
 
     let p9 = [vec![entry(ALL, DISCARD), entry(ALL, BYPASS)]];
     cases.same(merge_of(&p9), Ok(vec![entry(ALL, DISCARD)]), none);
 
+    let icmp = only(4, 1, 1);
     let before = [vec![entry(icmp, 0), entry(ALL, DISCARD)]];
     cases.same(merge_of(&before), Err(Refusal::Conflict([0, 0, 0, 0, 1])), none);
     let after = [vec![entry(ALL, DISCARD), entry(icmp, 0)]];
@@ -140,10 +160,129 @@ fn ports_where_there_are_ports(cases: &mut Cases) {
     // Pairs that match no header are dropped before the working list is counted.
     for crowd in &CROWDS[CROWDS.len() - 2..] {
         let lists: Vec<List> = crowd.iter().map(|(f, n)| single_ports(*f, *n)).collect();
-        let lists: Vec<&[Entry]> = lists.iter().map(|list| &list[..]).collect();
-        cases.same(model::working_list(&lists).map(|list| list.len()), Ok(256), none);
+        let working = model::working_list(&slices(&lists));
+        cases.same(working.map(|list| list.len()), Ok(256), none);
     }
 }
+
+// ---------------------------------------------------------------- one action to install: Wish 2 of 02
+
+/// An entry for a range of local addresses, all else being whole.
+fn addresses(low: u32, high: u32, actions: u16) -> Entry {
+    entry(only(0, low, high), actions)
+}
+
+fn turned(ranking: &[u8]) -> Vec<u8> {
+    ranking.iter().rev().copied().collect()
+}
+
+/// Entry 0 catches 0 to 9, which entry 1 matches too, and entry 1 catches 10 to 14, which entry 2
+/// matches too. Where all three have one set, entry 0 or entry 1 can be struck, but not both.
+fn overlapping() -> List {
+    vec![
+        addresses(0, 9, DISCARD | BYPASS),
+        addresses(0, 14, DISCARD | ESP),
+        addresses(10, u32::MAX, DISCARD),
+    ]
+}
+
+fn one_action_to_install(cases: &mut Cases) {
+    let none = || "an example of Wish 2".to_string();
+
+    // P8 again. With ESP as the best action, entry 1 says of the subnet what entry 0 says.
+    let p8 = appendix(BYPASS | DISCARD);
+    let esp_first = [2, 1, 0, 3, 4, 5, 6, 7, 8, 9, 10, 11, 12, 13, 14, 15];
+    let two = vec![entry(web(), ESP), entry(ALL, DISCARD)];
+    cases.same(install_of(&p8, &esp_first), Ok(two), none);
+    let three = vec![entry(subnet_web(), BYPASS), entry(web(), ESP), entry(ALL, DISCARD)];
+    cases.same(install_of(&p8, &turned(&esp_first)), Ok(three), none);
+
+    // The last that can be struck is; from first to last it would be entry 0.
+    let lists = [overlapping()];
+    cases.same(merge_of(&lists), Ok(overlapping()), none);
+    let two = vec![addresses(0, 9, DISCARD), addresses(10, u32::MAX, DISCARD)];
+    cases.same(install_of(&lists, &RISING), Ok(two), none);
+    let three =
+        vec![addresses(0, 9, BYPASS), addresses(0, 14, ESP), addresses(10, u32::MAX, DISCARD)];
+    cases.same(install_of(&lists, &turned(&RISING)), Ok(three), none);
+
+    // Merging strikes entry 0, as entry 1 has its set. Had one action been taken before that, entry 1
+    // could be struck, beside entries 0 and 2, and entry 0 would stay.
+    let twice = [vec![
+        addresses(0, 9, DISCARD | BYPASS),
+        addresses(0, 19, DISCARD | BYPASS),
+        addresses(10, 24, DISCARD),
+        entry(ALL, ESP),
+    ]];
+    let three = vec![addresses(0, 19, DISCARD), addresses(10, 24, DISCARD), entry(ALL, ESP)];
+    cases.same(install_of(&twice, &RISING), Ok(three), none);
+
+    // Of all actions, the first of the ranking.
+    for first in 0..16 {
+        let mut ranking = RISING;
+        ranking.rotate_left(first);
+        let installed = install_of(&[vec![entry(ALL, 0xffff)]], &ranking);
+        cases.same(installed, Ok(vec![entry(ALL, 1 << first)]), none);
+    }
+}
+
+/// Bytes that are no ranking: too few, too many, a number twice, a number above 15. The last two would
+/// be one if only the last four bits of a number counted.
+fn not_rankings() -> Vec<Vec<u8>> {
+    let mut bad = vec![vec![], RISING[..15].to_vec(), vec![0; 16]];
+    for more in [&[0][..], &[16], &RISING, &[0; 256]] {
+        bad.push([&RISING, more].concat());
+    }
+    for (i, number) in [(0, 1), (15, 14), (0, 16), (15, 255)] {
+        let mut ranking = RISING.to_vec();
+        ranking[i] = number;
+        bad.push(ranking);
+    }
+    bad
+}
+
+fn refusals_of_installing(cases: &mut Cases) {
+    let none = || "the order of the refusals".to_string();
+    let clash = [vec![entry(ALL, BYPASS)], vec![entry(ALL, DISCARD)]];
+    let crowd = [single_ports(2, 16), single_ports(3, 15)];
+    for ranking in not_rankings() {
+        for lists in [&[][..], &clash, &crowd, &[overlapping()]] {
+            cases.same(install_of(lists, &ranking), Err(Refusal::Ranking), none);
+        }
+        let empty = Bench::default().install(&ranking, &mut []);
+        cases.same(empty, Err(Refusal::Ranking), none);
+    }
+    cases.same(install_of(&[], &RISING), Err(Refusal::Bare), none);
+    cases.same(Bench::default().install(&RISING, &mut []), Err(Refusal::Bare), none);
+    cases.same(install_of(&crowd, &RISING), Err(Refusal::Crowded), none);
+    cases.same(install_of(&clash, &RISING), Err(Refusal::Conflict([0; 5])), none);
+}
+
+/// How long the buffer has to be: three entries have a file of 89 bytes, two one of 61.
+fn room_to_install(cases: &mut Cases) {
+    let mut bench = Bench::default();
+    cases.same(bench.file(1, &file(&overlapping())), Ok(3), || "filing".into());
+    let falling = turned(&RISING);
+    for (ranking, length, expected) in [
+        (&RISING[..], 0, Err(Refusal::Narrow(61))),
+        (&RISING, 60, Err(Refusal::Narrow(61))),
+        (&RISING, 61, Ok((2, 61))),
+        (&RISING, 88, Ok((2, 61))),
+        (&RISING, 100, Ok((2, 61))),
+        (&falling, 88, Err(Refusal::Narrow(89))),
+        (&falling, 89, Ok((3, 89))),
+    ] {
+        let case = || format!("{length} bytes for installing by {ranking:?}");
+        let mut buffer = vec![0x77; length];
+        cases.same(bench.install(ranking, &mut buffer), expected, case);
+        let written = expected.map_or(0, |(_, length)| length);
+        cases.same(buffer[written..].iter().all(|b| *b == 0x77), true, case);
+    }
+    cases.same(bench.merge(&mut [0; 88]), Err(Refusal::Narrow(89)), || "merging".into());
+    cases.same(bench.merge(&mut [0; 89]), Ok((3, 89)), || "merging".into());
+}
+
+// ---------------------------------------------------------------- small header spaces
 
 /// How often it mattered what a header is.
 #[derive(Default, Debug)]
@@ -176,12 +315,38 @@ fn least_clash(lists: &[List], all: &[Header]) -> Option<Header> {
     all.iter().copied().find(|h| common(h) == 0)
 }
 
-/// The cells against the points: gaps, searches, lookups and whole mergings.
+/// How often installing came to what.
+#[derive(Default, Debug)]
+struct Installs {
+    /// Lists as long as the merged ones.
+    as_long: usize,
+    /// Lists shorter than the merged ones.
+    shorter: usize,
+    /// Lists that the ranking's reverse makes otherwise.
+    turned: usize,
+    /// Lists that would be others if one action were taken before merging strikes.
+    struck_twice: usize,
+    conflicts: usize,
+    bare: usize,
+    /// Bytes that are no ranking where lists merge, are in conflict, and are none.
+    no_ranking: [usize; 3],
+}
+
+impl Installs {
+    fn counts(&self) -> Vec<usize> {
+        let Installs { as_long, shorter, turned, struck_twice, conflicts, bare, no_ranking } = self;
+        let others = [as_long, shorter, turned, struck_twice, conflicts, bare];
+        others.into_iter().chain(no_ranking).copied().collect()
+    }
+}
+
+/// The cells against the points: gaps, searches, lookups, whole mergings and installs.
 fn small_spaces(cases: &mut Cases, wanted: usize) {
     let (points, all) = (points(), combinations());
     let mut random = Random::new(1);
     let mut answers = [0usize; 4];
     let mut apart = Apart::default();
+    let mut installs = Installs::default();
     while cases.count < wanted {
         let sets = *random.pick(&[Sets::Any, Sets::With(4), Sets::OneOf(6, 12), Sets::OneOf(5, 6)]);
         let mut lists = vec![];
@@ -216,7 +381,11 @@ fn small_spaces(cases: &mut Cases, wanted: usize) {
             Err(Refusal::Crowded) => 2,
             Err(_) => 3,
         }] += 1;
-        cases.same(merge_of(&lists), expected, || format!("merging of {lists:?}"));
+        cases.same(merge_of(&lists), expected.clone(), || format!("merging of {lists:?}"));
+        for _ in 0..3 {
+            let ranking = some_ranking(&mut random);
+            install(cases, &lists, &expected, &ranking, &points, &mut installs);
+        }
     }
     println!(
         "  small mergings: {} merged, {} conflicts, {} crowded, {} bare",
@@ -226,6 +395,58 @@ fn small_spaces(cases: &mut Cases, wanted: usize) {
     let Apart { covering, headerless, searches, lookups, merged, conflicts } = apart;
     let counts = [covering, headerless, searches, lookups, merged, conflicts];
     assert!(counts.iter().all(|count| *count > 0), "some case was never met");
+    println!("  installs: {installs:?}");
+    assert!(installs.counts().iter().all(|count| *count > 0), "some install was never met");
+}
+
+/// Installing lists whose merging is known.
+fn install(
+    cases: &mut Cases,
+    lists: &[List],
+    merged: &Result<List, Refusal>,
+    ranking: &[u8],
+    points: &[Header],
+    installs: &mut Installs,
+) {
+    let expected = installed(merged.clone(), ranking, points);
+    let case = || format!("installing of {lists:?} by {ranking:?}");
+    cases.same(install_of(lists, ranking), expected.clone(), case);
+    match (&expected, merged) {
+        (Ok(list), Ok(merged)) => {
+            promises(cases, lists, ranking, list, points);
+            installs.as_long += (list.len() == merged.len()) as usize;
+            installs.shorter += (list.len() < merged.len()) as usize;
+            let turned = installed(Ok(merged.clone()), &turned(ranking), points);
+            installs.turned += (turned.as_ref() != Ok(list)) as usize;
+            let working = model::working_list(&slices(lists)).expect("not crowded");
+            let once = struck(keeping_foremost(&working, ranking), points);
+            installs.struck_twice += (once != *list) as usize;
+        }
+        (Err(Refusal::Ranking), Ok(_)) => installs.no_ranking[0] += 1,
+        (Err(Refusal::Ranking), Err(Refusal::Conflict(_))) => installs.no_ranking[1] += 1,
+        (Err(Refusal::Ranking), Err(Refusal::Bare)) => installs.no_ranking[2] += 1,
+        (Err(Refusal::Conflict(_)), _) => installs.conflicts += 1,
+        (Err(Refusal::Bare), _) => installs.bare += 1,
+        _ => {}
+    }
+}
+
+/// What is promised of an installed list, point by point: a header gets the best-ranked of the actions
+/// that the lists in force allow it, every header is caught, and no entry can be struck.
+fn promises(
+    cases: &mut Cases,
+    lists: &[List],
+    ranking: &[u8],
+    installed: &List,
+    points: &[Header],
+) {
+    let best = |h: &Header| foremost(common_actions(lists, h), ranking);
+    let wrong = points.iter().find(|h| allowed(installed, h) != Some(best(h)));
+    let case = || format!("{installed:?}, installed of {lists:?} by {ranking:?}");
+    cases.same(wrong, None, case);
+    cases.same(least_uncaught(installed, points), None, case);
+    let needless = (0..installed.len()).find(|k| is_needless(installed, *k, points));
+    cases.same(needless, None, case);
 }
 
 fn search(
@@ -271,6 +492,30 @@ fn lookup(cases: &mut Cases, list: &List, h: Header, points: &[Header], apart: &
     cases.same(model::lookup_part(&bytes, &h), part, case);
 }
 
+/// What a call answers and leaves in the lent buffer, held against the list that is to be written.
+fn written(
+    cases: &mut Cases,
+    answer: Result<(usize, usize), Refusal>,
+    buffer: &[u8],
+    lent: &Buffer,
+    expected: Result<List, Refusal>,
+    script: &[Call],
+) {
+    let case = || format!("{script:?}");
+    let fits = |list: List| match file(&list).len() {
+        length if length > lent.length => Err(Refusal::Narrow(length)),
+        _ => Ok(list),
+    };
+    let expected = expected.and_then(fits);
+    let counted = expected.as_ref().map(|list| (list.len(), file(list).len()));
+    cases.same(answer, counted.map_err(|refusal| *refusal), case);
+    let length = answer.map_or(0, |(_, length)| length);
+    if let Ok(list) = expected {
+        cases.same(model::read(&buffer[..length], 256), Ok(list), case);
+    }
+    cases.same(buffer[length..].iter().all(|b| *b == lent.fill), true, case);
+}
+
 /// What is in force, told from the history of the calls: each party's last accepted filing that
 /// was not withdrawn since.
 fn histories(cases: &mut Cases, wanted: usize) {
@@ -294,6 +539,7 @@ fn histories(cases: &mut Cases, wanted: usize) {
                 }
                 last
             };
+            let lists = || -> Vec<List> { (1..=8).filter_map(in_force).collect() };
             match call {
                 Call::File { party, file } => {
                     if bench.file(*party, &file.0).is_ok() {
@@ -309,33 +555,15 @@ fn histories(cases: &mut Cases, wanted: usize) {
                     }
                 }
                 Call::Merge { buffer: lent } => {
-                    let lists: Vec<List> = (1..=8).filter_map(in_force).collect();
-                    let expected = merge_of(&lists);
                     let mut buffer = vec![lent.fill; lent.length];
-                    match (bench.merge(&mut buffer), expected) {
-                        (Ok((n, length)), Ok(list)) => {
-                            cases.same(n, list.len(), || format!("{script:?}"));
-                            let read = model::read(&buffer[..length], 256);
-                            cases.same(read, Ok(list), || format!("{script:?}"));
-                            cases.same(
-                                buffer[length..].iter().all(|b| *b == lent.fill),
-                                true,
-                                || "past the file".into(),
-                            );
-                        }
-                        (Err(Refusal::Narrow(needed)), Ok(list)) => {
-                            cases.same(needed, 5 + 28 * list.len(), || format!("{script:?}"));
-                            cases.same(needed > lent.length, true, || "narrow".into());
-                        }
-                        (Err(refusal), Err(expected)) => {
-                            cases.same(refusal, expected, || format!("{script:?}"))
-                        }
-                        (answer, expected) => {
-                            cases.same(format!("{answer:?}"), format!("{expected:?}"), || {
-                                "merge".into()
-                            })
-                        }
-                    }
+                    let answer = bench.merge(&mut buffer);
+                    written(cases, answer, &buffer, lent, merge_of(&lists()), &script);
+                }
+                Call::Install { ranking, buffer: lent } => {
+                    let mut buffer = vec![lent.fill; lent.length];
+                    let answer = bench.install(&ranking.0, &mut buffer);
+                    let expected = install_of(&lists(), &ranking.0);
+                    written(cases, answer, &buffer, lent, expected, &script);
                 }
                 _ => unreachable!("only calls on the bench"),
             }
@@ -374,12 +602,15 @@ fn replays(cases: &mut Cases, wanted: usize) {
 
 fn main() {
     let mut cases = Cases::new("model_test", 600);
-    let wanted = Cases::wanted(60_000);
+    let wanted = Cases::wanted(90_000);
     examples(&mut cases);
     ports_where_there_are_ports(&mut cases);
+    one_action_to_install(&mut cases);
+    refusals_of_installing(&mut cases);
+    room_to_install(&mut cases);
     small_spaces(&mut cases, wanted);
     histories(&mut cases, wanted / 12);
-    round_trips(&mut cases, wanted / 60);
-    replays(&mut cases, wanted / 300);
+    round_trips(&mut cases, wanted / 90);
+    replays(&mut cases, wanted / 450);
     cases.done("cells, points, histories and the documents' examples agree");
 }
