@@ -341,6 +341,13 @@ pub fn replayed(input: &[u8]) -> Replayed<'_> {
     Replayed { rest: Rest(input), bench: Bench::default(), opened: false }
 }
 
+impl Replayed<'_> {
+    /// The bench after the calls so far.
+    pub fn bench(&self) -> &Bench {
+        &self.bench
+    }
+}
+
 impl Iterator for Replayed<'_> {
     type Item = (Option<Call>, String);
 

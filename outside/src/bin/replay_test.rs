@@ -4,7 +4,8 @@
 
 use outside::calls::call_list;
 use outside::entry::{file, is_header, Entry, Header, ALL};
-use outside::model::{holds, is_crossed, least_header, read, LIST_LIMIT};
+use outside::generate::RISING;
+use outside::model::{holds, is_crossed, least_header, read, Bench, Refusal, LIST_LIMIT};
 use outside::process::{run, Run};
 use outside::random::Random;
 use outside::replay::{
@@ -20,7 +21,7 @@ const LIMIT: Duration = Duration::from_secs(60);
 // ---------------------------------------------------------------- kinds of answers
 
 /// Each call's number and name, and the kinds of answers that every run has to meet.
-const CALLS: [(u8, &str, &str); 13] = [
+const CALLS: [(u8, &str, &str); 14] = [
     (0, "open", "ok"),
     (1, "file", "ok, no 1, no 2, no 3, no 4, no 5, no 6"),
     (2, "withdraw", "ok, no 6, no 7"),
@@ -41,6 +42,13 @@ const CALLS: [(u8, &str, &str); 13] = [
          no 2 4, no 2 5",
     ),
     (10, "search", "ok none, ok header, ok no header, no 1, no 2, no 3, no 4"),
+    (
+        11,
+        "install",
+        "ok exact, ok longer, ok 256 entries, ok too short for merging, no 8, no 9, no 10, \
+         no 11 one short, no 11 short, no 12 empty, no 12 too few, no 12 too many, no 12 above 15, \
+         no 12 twice, no 12 alone, no 12 before 8, no 12 before 9, no 12 before 10, no 12 before 11",
+    ),
     (19, "lookup in C", "ok entry, ok 256, ok no header, ok 257, ok 258, ok 259, ok 260"),
     (
         20,
@@ -92,8 +100,8 @@ fn kind(call: u8, line: &str) -> String {
         (9, "no", [file, refusal, ..]) => format!("{file} {refusal}"),
         (_, "no", [11, needed]) => format!("11 {}", fit(lent, *needed)),
         (_, "no", [refusal, ..]) => refusal.to_string(),
-        (3, _, [256, _]) => "256 entries".to_string(),
-        (3..=5, _, [.., length]) => fit(lent, *length).to_string(),
+        (3 | 11, _, [256, _]) => "256 entries".to_string(),
+        (3..=5 | 11, _, [.., length]) => fit(lent, *length).to_string(),
         (6 | 8, _, []) => "uncaught".to_string(),
         (6 | 8 | 19, _, [0..=255]) => "entry".to_string(),
         (8, _, _) => "entry past 255".to_string(),
@@ -105,6 +113,45 @@ fn kind(call: u8, line: &str) -> String {
         _ => String::new(),
     };
     format!("{word} {more}").trim_end().to_string()
+}
+
+/// What is wrong with the bytes of a refused ranking.
+fn fault(ranking: &[u8]) -> &'static str {
+    match ranking.len() {
+        0 => "empty",
+        1..=15 => "too few",
+        16 if ranking.iter().any(|number| *number > 15) => "above 15",
+        16 => "twice",
+        _ => "too many",
+    }
+}
+
+/// The kinds of answer that an install's line is, beside what merging into as long a buffer answers. A
+/// refused ranking has two: what is wrong with it, and which refusal would come without that.
+fn install_kinds(ranking: &[u8], buffer: &Buffer, line: &str, bench: &Bench) -> Vec<String> {
+    let merging = bench.merge(&mut vec![0; buffer.length]);
+    match (kind(11, line).as_str(), merging) {
+        ("no 12", merging) => {
+            let next = match merging {
+                Ok(_) => "alone".to_string(),
+                Err(refusal) => format!("before {}", refusal.number()),
+            };
+            vec![format!("no 12 {}", fault(ranking)), format!("no 12 {next}")]
+        }
+        ("ok exact" | "ok longer", Err(Refusal::Narrow(_))) => {
+            vec!["ok too short for merging".to_string()]
+        }
+        (kind, _) => vec![kind.to_string()],
+    }
+}
+
+/// The kinds of answer that a call's line is, on a bench; mostly one.
+fn kinds(call: &Call, line: &str, bench: &Bench) -> Vec<String> {
+    match call {
+        _ if is_beside_headers(call) => vec!["ok no header".to_string()],
+        Call::Install { ranking, buffer } => install_kinds(&ranking.0, buffer, line, bench),
+        _ => vec![kind(call.number(), line)],
+    }
 }
 
 // ---------------------------------------------------------------- holding program against model
@@ -127,18 +174,17 @@ struct Account {
 }
 
 impl Account {
-    fn count(&mut self, call: Option<Call>, line: &str) {
+    /// Counts a line; the bench is that after the call.
+    fn count(&mut self, call: Option<Call>, line: &str, bench: &Bench) {
         let Some(call) = call else {
             self.bad += 1;
             return;
         };
         self.calls += 1;
-        let number = call.number();
-        let kind = match is_beside_headers(&call) {
-            true => "ok no header".to_string(),
-            false => kind(number, line),
-        };
-        *self.met.entry(number).or_default().entry(kind).or_default() += 1;
+        let met = self.met.entry(call.number()).or_default();
+        for kind in kinds(&call, line, bench) {
+            *met.entry(kind).or_default() += 1;
+        }
     }
 
     /// Prints what was met; answers what never was.
@@ -174,7 +220,9 @@ impl Test {
             return Some(format!("{run:?}"));
         };
         let mut lines = written.split_inclusive('\n');
-        for (number, (call, expected)) in replayed(input).enumerate() {
+        let mut calls = replayed(input);
+        let mut number = 0;
+        while let Some((call, expected)) = calls.next() {
             let got = lines.next().unwrap_or_default();
             if got != expected {
                 return Some(format!(
@@ -182,7 +230,8 @@ impl Test {
                     call.map_or("no call".to_string(), |call| format!("{call:?}"))
                 ));
             }
-            self.account.count(call, got);
+            self.account.count(call, got, calls.bench());
+            number += 1;
         }
         self.account.inputs += 1;
         self.account.bytes += input.len();
@@ -220,6 +269,7 @@ fn one_of_each() -> Vec<Call> {
         Call::Open,
         Call::File { party: 1, file: bytes.clone() },
         Call::Merge { buffer },
+        Call::Install { ranking: Bytes(RISING.to_vec()), buffer },
         Call::Withdraw { party: 1 },
         Call::Rewrite { file: bytes.clone(), buffer },
         Call::Write { count: 1, list: list.clone(), buffer },
@@ -255,6 +305,7 @@ fn calls_at_limits() -> Vec<Call> {
     for length in [LONGEST_BUFFER, LONGEST_BUFFER + 1, 0xffff_ffff] {
         let buffer = Buffer { length, fill: 7 };
         calls.push(Call::Merge { buffer });
+        calls.push(Call::Install { ranking: Bytes(RISING.to_vec()), buffer });
         calls.push(Call::Rewrite { file: bytes.clone(), buffer });
         calls.push(Call::Write { count: 1, list: list.to_vec(), buffer });
         calls.push(Call::CompareInC { first: bytes.clone(), second: bytes.clone(), buffer });
@@ -296,6 +347,10 @@ fn limits(test: &mut Test) {
         "a file and 64 KB",
         &opened(&[Call::Lookup { file: Bytes(longer), header: [0; 5] }]),
     );
+    // So is a ranking's.
+    let ranking = Bytes([&RISING[..], &[0; 65_536]].concat());
+    let buffer = Buffer { length: 1, fill: 9 };
+    test.check("a ranking and 64 KB", &opened(&[Call::Install { ranking, buffer }]));
     let mut cut = vec![0; LONGEST_INPUT];
     cut[LONGEST_INPUT - 1] = 2;
     test.check("a long list, cut short", &cut);
