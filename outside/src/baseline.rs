@@ -1,7 +1,8 @@
-//! The daemon's calls and the program's merging in Rust, by the product's algorithm, for measuring.
+//! The daemon's calls, the program's merging and installing in Rust, by the product's algorithm, for
+//! measuring.
 
 use crate::entry::{file, header_bytes, is_header, Box5, Entry, Header, List};
-use crate::merge::{merge, Form, Merged};
+use crate::merge::{install, merge, Form, Merged};
 use crate::model::Want;
 use crate::search::{are_proper, common_part, decode, differing, gap, lookup_packed};
 use crate::search::{missed_by_first, unrefined, Decoded, Lists, Packed, LAST};
@@ -163,14 +164,9 @@ pub fn search(lists: &impl Lists, within: &Box5, want: Want, boxes: &mut u64) ->
     }
 }
 
-/// Files an input of the program and merges into a buffer: the entry count, or 256 plus the
-/// refusal's number.
-pub fn merge_input(input: &[u8], buffer: &mut [u8], form: Form, boxes: &mut u64) -> u32 {
-    let lists = filed(input);
-    if lists.is_empty() {
-        return 256 + 8;
-    }
-    match merge(&lists, form, boxes) {
+/// Writes a merged or installed list into a buffer: the entry count, or 256 plus the refusal's number.
+fn put(merged: Merged, buffer: &mut [u8]) -> u32 {
+    match merged {
         Merged::Crowded => 256 + 9,
         Merged::Conflict(_) => 256 + 10,
         Merged::List(list) => {
@@ -182,4 +178,38 @@ pub fn merge_input(input: &[u8], buffer: &mut [u8], form: Form, boxes: &mut u64)
             list.len() as u32
         }
     }
+}
+
+/// Files an input of the program and merges into a buffer: the entry count, or 256 plus the
+/// refusal's number.
+pub fn merge_input(input: &[u8], buffer: &mut [u8], form: Form, boxes: &mut u64) -> u32 {
+    let lists = filed(input);
+    if lists.is_empty() {
+        return 256 + 8;
+    }
+    put(merge(&lists, form, boxes), buffer)
+}
+
+/// Whether the bytes are the numbers 0 to 15 once each: sixteen, and none is missing.
+fn is_ranking(bytes: &[u8]) -> bool {
+    let numbers = bytes.iter().filter(|number| **number < 16);
+    bytes.len() == 16 && numbers.fold(0u16, |seen, number| seen | 1 << number) == 0xffff
+}
+
+/// The same with installing by a ranking.
+pub fn install_input(
+    input: &[u8],
+    ranking: &[u8],
+    buffer: &mut [u8],
+    form: Form,
+    boxes: &mut u64,
+) -> u32 {
+    let lists = filed(input);
+    if !is_ranking(ranking) {
+        return 256 + 12;
+    }
+    if lists.is_empty() {
+        return 256 + 8;
+    }
+    put(install(&lists, ranking, form, boxes), buffer)
 }

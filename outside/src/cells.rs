@@ -5,7 +5,7 @@
 
 use crate::entry::{Box5, Entry, Header, List, FIELDS, TOP};
 use crate::entry::{LOCAL_PORT, PROTOCOL, REMOTE_PORT, WITH_PORTS};
-use crate::merge::Merged;
+use crate::merge::{best_of, Merged};
 use crate::model::header_cuts;
 use crate::search::common_part;
 use std::collections::{BTreeSet, HashSet};
@@ -195,6 +195,25 @@ pub fn unrefined(
     Ok(found)
 }
 
+/// What is left of a list when, from last to first, each entry is struck without which every header is
+/// allowed the same.
+fn struck(mut list: List, limit: usize) -> Result<List, TooMany> {
+    for k in (0..list.len()).rev() {
+        let mut without = list.clone();
+        without.remove(k);
+        let mut needed = false;
+        let selector = list[k].selector;
+        Cells::new([&list, &without], &selector, limit).walk(&mut |_, i, j| {
+            needed = i.map(|i| list[i].actions) != j.map(|j| without[j].actions);
+            needed
+        })?;
+        if !needed {
+            list = without;
+        }
+    }
+    Ok(list)
+}
+
 /// Merging of covering lists: the first matches that occur together are the pairs that are kept.
 pub fn merge(lists: &[List], limit: usize) -> Result<Merged, TooMany> {
     let everything = Entry { selector: crate::entry::ALL, actions: 0xffff };
@@ -225,19 +244,16 @@ pub fn merge(lists: &[List], limit: usize) -> Result<Merged, TooMany> {
     if let Some(header) = working.iter().filter(|(e, _)| e.actions == 0).map(|(_, h)| *h).min() {
         return Ok(Merged::Conflict(header));
     }
-    let mut list: List = working.into_iter().map(|(e, _)| e).collect();
-    for k in (0..list.len()).rev() {
-        let mut without = list.clone();
-        without.remove(k);
-        let mut needed = false;
-        let selector = list[k].selector;
-        Cells::new([&list, &without], &selector, limit).walk(&mut |_, i, j| {
-            needed = i.map(|i| list[i].actions) != j.map(|j| without[j].actions);
-            needed
-        })?;
-        if !needed {
-            list = without;
-        }
-    }
-    Ok(Merged::List(list))
+    let list = working.into_iter().map(|(e, _)| e).collect();
+    Ok(Merged::List(struck(list, limit)?))
+}
+
+/// Installing of covering lists, by a ranking of all actions.
+pub fn install(lists: &[List], ranking: &[u8], limit: usize) -> Result<Merged, TooMany> {
+    let mut list = match merge(lists, limit)? {
+        Merged::List(list) => list,
+        refused => return Ok(refused),
+    };
+    list.iter_mut().for_each(|e| e.actions = best_of(e.actions, ranking));
+    Ok(Merged::List(struck(list, limit)?))
 }

@@ -1,8 +1,9 @@
-//! The product's merging in Rust, for measuring: pairs in lexicographic order, each kept exactly if
-//! it catches a header that the kept ones leave uncaught; then conflict; then striking from last to
-//! first. The search works on packed records, or on decoded ones.
+//! The product's merging and installing in Rust, for measuring: pairs in lexicographic order, each kept
+//! exactly if it catches a header that the kept ones leave uncaught; then conflict; then striking from
+//! last to first. Installing goes on with one action of each set, and strikes again. The search works on
+//! packed records, or on decoded ones.
 
-use crate::entry::{record, Box5, Entry, Header, List, ALL, RECORD};
+use crate::entry::{record, Box5, Entry, Header, List, ALL, BOX, RECORD};
 use crate::search::{common_part, is_proper, Decoded, Lists, Packed};
 
 #[derive(Clone, PartialEq, Eq, Debug)]
@@ -55,6 +56,19 @@ impl Working {
         self.entries.remove(k);
         self.bytes.drain(RECORD * k..RECORD * (k + 1));
     }
+
+    /// Leaves each entry the best-ranked action of its set.
+    fn keep_best(&mut self, ranking: &[u8]) {
+        for (entry, record) in self.entries.iter_mut().zip(self.bytes.chunks_mut(RECORD)) {
+            entry.actions = best_of(entry.actions, ranking);
+            record[BOX..].copy_from_slice(&entry.actions.to_be_bytes());
+        }
+    }
+}
+
+/// The best-ranked action of a set, alone.
+pub fn best_of(set: u16, ranking: &[u8]) -> u16 {
+    ranking.iter().map(|action| 1 << action).find(|one| set & one != 0).unwrap_or(0)
 }
 
 /// The pairs of two lists that catch a header, or none if they are too many.
@@ -90,16 +104,18 @@ fn is_needed(list: &Working, k: usize, boxes: &mut u64) -> bool {
     list.least_open(0..k, k + 1..n, &entry.selector, boxes).is_some()
 }
 
-/// Merging of covering lists.
-pub fn merge(lists: &[List], form: Form, boxes: &mut u64) -> Merged {
+/// The working list of covering lists, or none if it is too long.
+fn working_list(lists: &[List], form: Form, boxes: &mut u64) -> Option<Working> {
     let everything = Entry { selector: ALL, actions: 0xffff };
     let mut working = Working { entries: vec![everything], bytes: record(&everything), form };
     for next in lists {
-        match cross(&working.entries, next, form, boxes) {
-            Some(crossed) => working = crossed,
-            None => return Merged::Crowded,
-        }
+        working = cross(&working.entries, next, form, boxes)?;
     }
+    Some(working)
+}
+
+/// The least header that an entry without actions catches.
+fn least_conflict(working: &Working, boxes: &mut u64) -> Option<Header> {
     let mut conflict = None;
     for (k, entry) in working.entries.iter().enumerate() {
         if entry.actions == 0 {
@@ -107,13 +123,39 @@ pub fn merge(lists: &[List], form: Form, boxes: &mut u64) -> Merged {
             conflict = [conflict, first].into_iter().flatten().min();
         }
     }
-    if let Some(header) = conflict {
-        return Merged::Conflict(header);
-    }
-    for k in (0..working.entries.len()).rev() {
-        if !is_needed(&working, k, boxes) {
-            working.remove(k);
+    conflict
+}
+
+fn strike(list: &mut Working, boxes: &mut u64) {
+    for k in (0..list.entries.len()).rev() {
+        if !is_needed(list, k, boxes) {
+            list.remove(k);
         }
     }
-    Merged::List(working.entries)
+}
+
+/// Merging, or where there is a ranking installing.
+fn reconcile(lists: &[List], ranking: Option<&[u8]>, form: Form, boxes: &mut u64) -> Merged {
+    let Some(mut list) = working_list(lists, form, boxes) else {
+        return Merged::Crowded;
+    };
+    if let Some(header) = least_conflict(&list, boxes) {
+        return Merged::Conflict(header);
+    }
+    strike(&mut list, boxes);
+    if let Some(ranking) = ranking {
+        list.keep_best(ranking);
+        strike(&mut list, boxes);
+    }
+    Merged::List(list.entries)
+}
+
+/// Merging of covering lists.
+pub fn merge(lists: &[List], form: Form, boxes: &mut u64) -> Merged {
+    reconcile(lists, None, form, boxes)
+}
+
+/// Installing of covering lists, by a ranking of all actions.
+pub fn install(lists: &[List], ranking: &[u8], form: Form, boxes: &mut u64) -> Merged {
+    reconcile(lists, Some(ranking), form, boxes)
 }

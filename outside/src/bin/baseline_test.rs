@@ -5,8 +5,9 @@ use outside::cells;
 use outside::daemon_cases::{comparisons, lookups};
 use outside::entry::{file, header_bytes, is_header, records, Entry, Header, List, ALL};
 use outside::generate::{any_list, box_near, header_near, long_list, program_input, Sets};
-use outside::merge::{merge, Form, Merged};
-use outside::model::{self, Refusal, Want};
+use outside::generate::{good_ranking, some_ranking};
+use outside::merge::{install, merge, Form, Merged};
+use outside::model::{self, Bench, Refusal, Want, LONGEST_FILE};
 use outside::random::Random;
 use outside::report::Cases;
 use outside::search::{common_part, decode, trimmed, Decoded, Packed};
@@ -59,37 +60,90 @@ fn searches(cases: &mut Cases, wanted: usize, random: &mut Random) {
     }
 }
 
+/// The model's answer in the form of the Rust versions; none where no list is in force.
+fn expected(answer: Result<List, Refusal>) -> Option<Merged> {
+    match answer {
+        Ok(list) => Some(Merged::List(list)),
+        Err(Refusal::Conflict(header)) => Some(Merged::Conflict(header)),
+        Err(Refusal::Crowded) => Some(Merged::Crowded),
+        Err(_) => None,
+    }
+}
+
+/// Mergings of the program's inputs, and installs by some ranking.
 fn mergings(cases: &mut Cases, wanted: usize, random: &mut Random) {
-    let mut answers = [0usize; 4];
+    let (mut answers, mut shorter) = ([0usize; 4], 0);
     for _ in 0..wanted {
         let input = program_input(random);
         let lists: Vec<List> = baseline::filed(&input);
         let slices: Vec<&[Entry]> = lists.iter().map(|l| &l[..]).collect();
-        let expected = match model::merged_list(&slices) {
-            Ok(list) => Merged::List(list),
-            Err(Refusal::Conflict(header)) => Merged::Conflict(header),
-            Err(Refusal::Crowded) => Merged::Crowded,
-            Err(_) => {
-                answers[3] += 1;
-                continue;
-            }
+        let ranking = good_ranking(random);
+        let Some(merged) = expected(model::merged_list(&slices)) else {
+            answers[3] += 1;
+            continue;
         };
-        answers[match &expected {
+        let installed = expected(model::installed_list(&slices, &ranking)).expect("lists in force");
+        answers[match &merged {
             Merged::List(_) => 0,
             Merged::Conflict(_) => 1,
             Merged::Crowded => 2,
         }] += 1;
+        if let (Merged::List(merged), Merged::List(installed)) = (&merged, &installed) {
+            shorter += (installed.len() < merged.len()) as usize;
+        }
         for form in [Form::Packed, Form::Decoded] {
             let case = || format!("{form:?} merging of {lists:?}");
-            cases.same(merge(&lists, form, &mut 0), expected.clone(), case);
+            cases.same(merge(&lists, form, &mut 0), merged.clone(), case);
+            let case = || format!("{form:?} installing of {lists:?} by {ranking:?}");
+            cases.same(install(&lists, &ranking, form, &mut 0), installed.clone(), case);
         }
         let case = || format!("merging of {lists:?} by cells");
-        cases.same(cells::merge(&lists, 1_000_000), Ok(expected.clone()), case);
+        cases.same(cells::merge(&lists, 1_000_000), Ok(merged), case);
+        let case = || format!("installing of {lists:?} by {ranking:?} by cells");
+        cases.same(cells::install(&lists, &ranking, 1_000_000), Ok(installed), case);
     }
     println!(
-        "  mergings: {} merged, {} conflicts, {} crowded, {} bare",
+        "  mergings: {} merged, {} conflicts, {} crowded, {} bare; {shorter} installed shorter",
         answers[0], answers[1], answers[2], answers[3]
     );
+    assert!(shorter > 0, "no install was shorter than its merging");
+}
+
+/// What the calls of libmeasured.a answer.
+fn number(answer: Result<(usize, usize), Refusal>) -> u32 {
+    answer.map_or_else(|refusal| 256 + refusal.number(), |(count, _)| count as u32)
+}
+
+/// A buffer's length: for the longest file, or about that of a short one.
+fn some_length(random: &mut Random) -> usize {
+    let about = 5 + 28 * random.below(12) as usize;
+    *random.pick(&[LONGEST_FILE, LONGEST_FILE, about, about - 1, about + 1])
+}
+
+/// Filing an input and merging or installing: the answers, and the buffer after them.
+fn inputs(cases: &mut Cases, wanted: usize, random: &mut Random) {
+    let mut refused = [0usize; 13];
+    for _ in 0..wanted {
+        let input = program_input(random);
+        let mut bench = Bench::default();
+        for (party, file) in model::framed(&input) {
+            let _ = bench.file(party, file);
+        }
+        let ranking = some_ranking(random);
+        let before = vec![0x5a; some_length(random)];
+        let (mut ours, mut expected) = (before.clone(), before.clone());
+        let merged = baseline::merge_input(&input, &mut ours, Form::Packed, &mut 0);
+        let answer = number(bench.merge(&mut expected));
+        cases.same((merged, ours), (answer, expected), || format!("merging {input:?}"));
+        let (mut ours, mut expected) = (before.clone(), before);
+        let installed = baseline::install_input(&input, &ranking, &mut ours, Form::Packed, &mut 0);
+        let answer = number(bench.install(&ranking, &mut expected));
+        let case = || format!("installing {input:?} by {ranking:?}");
+        cases.same((installed, ours), (answer, expected), case);
+        refused[answer.saturating_sub(256) as usize] += 1;
+    }
+    println!("  installs of inputs: {} accepted, refused 8 to 12: {:?}", refused[0], &refused[8..]);
+    assert!(refused[8..].iter().all(|count| *count > 0), "some refusal was never met");
 }
 
 /// Lookup in a table, answered as the daemon's call is.
@@ -126,5 +180,6 @@ fn main() {
     trimmings(&mut cases, wanted / 4, &mut random);
     searches(&mut cases, wanted / 8, &mut random);
     mergings(&mut cases, wanted / 20, &mut random);
+    inputs(&mut cases, wanted / 40, &mut random);
     cases.done("the Rust versions answer as the model does");
 }
