@@ -19,6 +19,10 @@
 //! /* Files an input of the program on a bench and merges into the buffer: the entry count, or 256
 //!    plus the refusal's number. */
 //! size_t measured_merge(const uint8_t *input, size_t input_len, uint8_t *file, size_t file_len);
+//! /* The same with installing by a ranking. Archives from before Wish 2 lack it (see build.rs). */
+//! size_t measured_install(const uint8_t *input, size_t input_len,
+//!                         const uint8_t *ranking, size_t ranking_len,
+//!                         uint8_t *file, size_t file_len);
 //! ```
 
 use crate::baseline::Unpacked;
@@ -32,12 +36,20 @@ pub struct Product {
     pub part: Option<fn(&[u8], &Header) -> u32>,
     pub table: Option<fn(&[Unpacked], &Header) -> u32>,
     pub merge: Option<fn(&[u8], &mut [u8]) -> u32>,
+    pub install: Option<fn(&[u8], &[u8], &mut [u8]) -> u32>,
 }
 
 pub fn product() -> Product {
     #[allow(unused_mut)]
-    let mut product =
-        Product { lookup: None, compare: None, search: None, part: None, table: None, merge: None };
+    let mut product = Product {
+        lookup: None,
+        compare: None,
+        search: None,
+        part: None,
+        table: None,
+        merge: None,
+        install: None,
+    };
     #[cfg(feature = "gateway")]
     {
         product.lookup = Some(crate::gateway::lookup);
@@ -49,6 +61,10 @@ pub fn product() -> Product {
         product.part = Some(measured::part);
         product.table = Some(measured::table);
         product.merge = Some(measured::merge);
+    }
+    #[cfg(all(feature = "measured", measured_install))]
+    {
+        product.install = Some(measured::install);
     }
     product
 }
@@ -110,9 +126,18 @@ mod measured {
             file: *mut u8,
             file_len: usize,
         ) -> usize;
+        #[cfg(measured_install)]
+        fn measured_install(
+            input: *const u8,
+            input_len: usize,
+            ranking: *const u8,
+            ranking_len: usize,
+            file: *mut u8,
+            file_len: usize,
+        ) -> usize;
     }
 
-    // Sound, all four: each pointer goes with the length of the slice that it is taken from.
+    // Sound, all five: each pointer goes with the length of the slice that it is taken from.
 
     pub fn search(file: &[u8], search: &Search, header: &mut [u8]) -> u32 {
         unsafe {
@@ -143,5 +168,19 @@ mod measured {
 
     pub fn merge(input: &[u8], file: &mut [u8]) -> u32 {
         unsafe { measured_merge(input.as_ptr(), input.len(), file.as_mut_ptr(), file.len()) as u32 }
+    }
+
+    #[cfg(measured_install)]
+    pub fn install(input: &[u8], ranking: &[u8], file: &mut [u8]) -> u32 {
+        unsafe {
+            measured_install(
+                input.as_ptr(),
+                input.len(),
+                ranking.as_ptr(),
+                ranking.len(),
+                file.as_mut_ptr(),
+                file.len(),
+            ) as u32
+        }
     }
 }

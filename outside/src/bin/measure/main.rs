@@ -1,4 +1,4 @@
-//! Measures search, comparison, lookup and merging, and their stack, and writes a Markdown page:
+//! Measures search, comparison, lookup, merging and installing, and their stack, and writes a Markdown page:
 //! measure [PATH [CHECKING]]. The product's columns are filled as far as its archives are linked (see
 //! product.rs). CHECKING is a file with what is to be said of the proofs, put at the page's end.
 //! `measure rows` times the product's rows as they are asked for (see rows.rs).
@@ -6,6 +6,7 @@
 mod comparison;
 mod findings;
 mod growth;
+mod installing;
 mod lookup;
 mod merging;
 mod rows;
@@ -64,6 +65,7 @@ fn main() {
     comparison::comparisons(&mut page, &product);
     lookup::lookups(&mut page, &product);
     merging::mergings(&mut page, &product);
+    installing::installs(&mut page, &product);
     stack::stacks(&mut page, &product);
     let mut growth = Growth::new();
     search::growth(&mut growth, &product);

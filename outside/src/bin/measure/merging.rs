@@ -15,7 +15,7 @@ use crate::rows::{kept, Row, Tried};
 use crate::search::name_of;
 use crate::times::{head, Job, Times, STATES};
 
-const JOB: &str = "merging";
+pub const JOB: &str = "merging";
 
 static RATIO: Target =
     Target { words: "merging: at most 1.5 times Rust over the bytes", most: 1.5 };
@@ -29,7 +29,7 @@ static WORST: Target =
     Target { words: "merging of the worst inputs of filed size: under 500 ms", most: 500.0 };
 
 /// The product's merging; its answer and what it writes are held against the expected ones.
-fn product_merge<'a>(
+pub fn product_merge<'a>(
     product: &Product,
     input: &'a [u8],
 ) -> Option<Tried<impl FnMut() -> u64 + 'a>> {
@@ -64,7 +64,8 @@ pub fn answer_word(answer: u32) -> String {
     }
 }
 
-fn merge_boxes(input: &[u8]) -> (u32, u64) {
+/// The Rust version's answer, and its boxes.
+pub fn merge_boxes(input: &[u8]) -> (u32, u64) {
     let mut boxes = 0;
     let answer = baseline::merge_input(input, &mut [0; 7173], Form::Packed, &mut boxes);
     (answer, boxes)
@@ -95,7 +96,7 @@ fn shadowed(parties: u8) -> Vec<u8> {
 }
 
 /// Inputs with their names, and what their times are to reach.
-fn merging_inputs() -> Vec<(String, Vec<u8>, &'static Target)> {
+pub fn merging_inputs() -> Vec<(String, Vec<u8>, &'static Target)> {
     let mut random = Random::new(401);
     let realistic = hardest_merging(|random| realistic_filings(4, 10, 20, random));
     let related = hardest_merging(|random| related_filings(8, 32, 1, random));

@@ -57,6 +57,7 @@ pub fn answer(product: &Product) {
     rows.extend(crate::comparison::rows(product));
     rows.extend(crate::lookup::rows(product));
     rows.extend(crate::merging::rows(product));
+    rows.extend(crate::installing::rows(product));
     for row in &rows {
         println!("{}\t{}\t{}", row.job, row.name, if row.is_right { "right" } else { "other" });
     }

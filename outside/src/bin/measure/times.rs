@@ -46,17 +46,30 @@ impl Times {
         decoded: Job,
         cells: &mut dyn FnMut() -> bool,
     ) -> Times {
+        Times::beside(None, product, packed, decoded, cells).1
+    }
+
+    /// The same, and the seconds of another job of the product, all timed in turn. The product's two do
+    /// not come after each other: the second would find its branches well predicted.
+    pub fn beside(
+        another: Option<Job>,
+        product: Option<Job>,
+        packed: Job,
+        decoded: Job,
+        cells: &mut dyn FnMut() -> bool,
+    ) -> (Option<f64>, Times) {
         let ended = cells();
         let mut by_cells = || cells() as u64;
         let other = ended.then_some(&mut by_cells as Job);
-        let ours = product.map(|job| job as Job);
-        let times = each(vec![ours, Some(packed as Job), Some(decoded as Job), other]);
-        Times {
+        let [ours, another] = [product.map(|job| job as Job), another.map(|job| job as Job)];
+        let times = each(vec![ours, Some(packed as Job), another, Some(decoded as Job), other]);
+        let versions = Times {
             product: times[0],
             packed: times[1].expect("timed"),
-            decoded: times[2].expect("timed"),
-            cells: times[3],
-        }
+            decoded: times[3].expect("timed"),
+            cells: times[4],
+        };
+        (times[2], versions)
     }
 
     pub fn columns(&self) -> Vec<String> {
