@@ -375,12 +375,12 @@ fn mergings() -> Vec<(String, Vec<u8>)> {
     inputs
 }
 
-/// Bytes of stack of filing and merging each of them, with names and answers.
-pub fn merging_stacks(merge: fn(&[u8], &mut [u8]) -> u32) -> Vec<(String, u32, usize)> {
+/// Bytes of stack of filing each of them and merging or installing, with names and answers.
+pub fn merging_stacks(call: &dyn Fn(&[u8], &mut [u8]) -> u32) -> Vec<(String, u32, usize)> {
     let (mut stack, mut buffer) = (Painted::new(), vec![0; 7173]);
     let mut measured = |(name, input): (String, Vec<u8>)| {
         let mut answer = 0;
-        let used = stack.used(&mut || answer = merge(&input, &mut buffer));
+        let used = stack.used(&mut || answer = call(&input, &mut buffer));
         (name, answer, used)
     };
     mergings().into_iter().map(&mut measured).collect()

@@ -4,11 +4,13 @@
 //! a thread of 64 KB.
 //! stack_test climb SECONDS FOLDER: looks for pairs of files whose comparison takes more, by hill
 //! climbing, and writes those it ends at. The seconds are for each start.
-//! stack_test merging: stack of filing and merging, where libmeasured.a is linked.
+//! stack_test merging: stack of filing and merging, and of filing and installing, where libmeasured.a is
+//! linked.
 
 use outside::deep::{self, families, Family, Pair};
 use outside::entry::{file, Entry, List, FIELDS, LAST_HEADER, TOP};
 use outside::gateway;
+use outside::generate::RISING;
 use outside::page::count;
 use outside::product::product;
 use outside::random::Random;
@@ -204,12 +206,19 @@ fn climb(seconds: u64, folder: &str) {
     }
 }
 
-// ---------------------------------------------------------------- filing and merging
+// ---------------------------------------------------------------- filing, merging and installing
+
+fn print_stacks(word: &str, call: &dyn Fn(&[u8], &mut [u8]) -> u32) {
+    for (name, answer, used) in deep::merging_stacks(call) {
+        println!("  {word}, {name}: {} bytes (answer {answer})", count(used as u64));
+    }
+}
 
 fn merging() {
-    let Some(merge) = product().merge else { panic!("built without the feature measured") };
-    for (name, answer, used) in deep::merging_stacks(merge) {
-        println!("  {name}: {} bytes (answer {answer})", count(used as u64));
+    let product = product();
+    print_stacks("merging", &product.merge.expect("the feature measured"));
+    if let Some(install) = product.install {
+        print_stacks("installing", &|input, file| install(input, &RISING, file));
     }
 }
 

@@ -1,6 +1,7 @@
 //! Stack, in bytes on a painted one.
 
 use outside::deep::{families, merging_stacks};
+use outside::generate::RISING;
 use outside::page::{count, Table};
 use outside::product::Product;
 use outside::stack::Painted;
@@ -30,10 +31,19 @@ pub fn stacks(page: &mut Page, product: &Product) {
         page.say(&table.text());
     }
     if let Some(merge) = product.merge {
-        let mut table = Table::new(&["filings and a merging", "answer", "bytes"]);
-        for (name, answer, used) in merging_stacks(merge) {
-            table.row(vec![name, answer_word(answer), count(used as u64)]);
-        }
-        page.say(&table.text());
+        page.say(&calls("filings and a merging", &merge));
     }
+    if let Some(install) = product.install {
+        let install = |input: &[u8], file: &mut [u8]| install(input, &RISING, file);
+        page.say(&calls("filings and an install", &install));
+    }
+}
+
+/// The table of a call that files and merges, or installs.
+fn calls(title: &str, call: &dyn Fn(&[u8], &mut [u8]) -> u32) -> String {
+    let mut table = Table::new(&[title, "answer", "bytes"]);
+    for (name, answer, used) in merging_stacks(call) {
+        table.row(vec![name, answer_word(answer), count(used as u64)]);
+    }
+    table.text()
 }
