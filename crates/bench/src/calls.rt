@@ -157,14 +157,14 @@ impl Bench {
         let mut rows = [0u32; ROWS];
         let slots = self.slots;
         let stage = add_slots(slots, &mut rows);
-        let answer = answer_of(end_merging(stage, &mut rows, out));
+        let merged = end_merging(stage, &mut rows, out);
         MergeResult {
             bench: self,
-            answer,
+            answer: answer_of(merged),
         }
     }
 
-    // Merges the lists in force, and installs of each entry the action that a ranking has first, into a lent buffer.
+    // Installs the lists in force into a lent buffer: merges them, leaves each entry the action of its set that stands first in a ranking, and strikes again.
     pub fn install(self, ranking: &[u8], out: &mut [u8]) -> MergeResult
         ensures { λ r. ⌜ _≡_ {A = Result} (mergedAs (r .answer), r .bench, now (out .exit)) (resultOf self (installing (now (ranking .entry)) (now (out .entry)))) ⌝ }
         ensures traced { λ r. ⌜ ((cs : List Call) → benchAfter cs ≡ self
@@ -180,10 +180,10 @@ impl Bench {
         let mut rows = [0u32; ROWS];
         let slots = self.slots;
         let stage = add_slots(slots, &mut rows);
-        let answer = answer_of(end_installing(stage, &mut rows, ranking, out));
+        let installed = end_installing(stage, &mut rows, ranking, out);
         MergeResult {
             bench: self,
-            answer,
+            answer: answer_of(installed),
         }
     }
 }

@@ -17,6 +17,9 @@ const JOB: &str = "installing";
 static RATIO: Target =
     Target { words: "installing: at most 1.5 times Rust over the bytes", most: 1.5 };
 
+static BESIDE: Target =
+    Target { words: "installing: at most 1.3 times the merging of the same lists", most: 1.3 };
+
 /// The columns before the times.
 const FIRST: [&str; 4] = ["filed", "merged", "installed", "boxes"];
 
@@ -85,6 +88,7 @@ pub fn installs(page: &mut Page, product: &Product) {
         let (merging, times) = install_times(product, &input);
         if let (Some(ours), Some(merging)) = (times.product, merging) {
             page.compare(JOB, merging::JOB, &name, ours / merging);
+            page.hold(&BESIDE, &name, ours / merging);
         }
         times.note(page, JOB, &name);
         page.hold(&RATIO, &name, times.ours() / times.packed);
