@@ -190,6 +190,19 @@ tested ranking t r n = sym r ∙ not-false {b = t} n
 book-is : (b : Bench) (cs : List Call) → benchAfter cs ≡ b → bookOf b ≡ bookAfter cs
 book-is b cs c = sym (ap bookOf c) ∙ book-after cs
 
+-- a call that leaves the bench, and whose answer and buffer are `of` the book: what is shown of these for the book is shown of the call
+module _ (b : Bench) (a : MergeAnswer) (after : List ℕ) (call : Call) (of : Book → Answer × List ℕ) (P : List (List Entry) → Answer → List ℕ → Type 0)
+    (step : resultOf b call ≡ (of (bookOf b) .0, b, of (bookOf b) .1)) (q : _≡_ {A = Answer × List ℕ} (mergedAs a, after) (of (bookOf b)))
+    (shown : (cs : List Call) → benchAfter cs ≡ b → P (inForce (bookAfter cs)) (of (bookAfter cs) .0) (of (bookAfter cs) .1)) where
+  right : (_≡_ {A = Result} (mergedAs a, b, after) (resultOf b call)) × Kept b call (λ ps. P ps (mergedAs a) after)
+  right = (
+    (λ i. (q i .0, b, q i .1)) ∙ sym step,
+    λ cs c. (
+      leads-on b b call (sym (ap (λ (r : Result). r .1) step)) cs c,
+      subst (λ (y : Answer × List ℕ). P (inForce (bookAfter cs)) (y .0) (y .1)) (sym (q ∙ ap of (book-is b cs c))) (shown cs c),
+    ),
+  )
+
 module _ (b : Bench) (buffer after : List ℕ) (w : Option Working) (e : Staged (bookOf b) w) (x : Merged) (a : MergeAnswer)
     (told : (c : List ℕ) → _≡_ {A = Answer × List ℕ} (mergedAs a, c) (said.ending x c)) where
   merges-as : ended headers w ≡ mergeOf headers (inForce (bookOf b))
@@ -199,31 +212,20 @@ module _ (b : Bench) (buffer after : List ℕ) (w : Option Working) (e : Staged 
   lists-fit cs c = in-force AllFit (bookAfter cs) (subst (EachSlot AllFit) (book-is b cs c) (e .1))
 
   pub merge-right : said.ending x after ≡ end.endingOf (ended headers w) buffer → MergedRight b buffer a after
-  merge-right f = (λ i. (q i .0, b, q i .1), λ cs c. (leads-on b b (merging buffer) refl cs c, demand cs c))
-    where
-      q : _≡_ {A = Answer × List ℕ} (mergedAs a, after) (mergingOf (bookOf b) buffer)
-      q = told after ∙ f ∙ ap (λ (y : Merging). end.endingOf y buffer) merges-as
-
-      demand : (cs : List Call) → benchAfter cs ≡ b → Demand3 (inForce (bookAfter cs)) buffer (mergedAs a) after
-      demand cs c =
-          subst (λ (y : Answer × List ℕ). Demand3 (inForce (bookAfter cs)) buffer (y .0) (y .1)) (sym (q ∙ ap (λ (j : Book). mergingOf j buffer) (book-is b cs c)))
-          (demand-3 buffer (inForce (bookAfter cs)) (all-covering cs) (reads-back (inForce (bookAfter cs)) (lists-fit cs c)))
+  merge-right f =
+      right b a after (merging buffer) (λ k. mergingOf k buffer) (λ ps. Demand3 ps buffer) refl
+      (told after ∙ f ∙ ap (λ (y : Merging). end.endingOf y buffer) merges-as)
+      λ cs c. demand-3 buffer (inForce (bookAfter cs)) (all-covering cs) (reads-back (inForce (bookAfter cs)) (lists-fit cs c))
 
   pub install-right : (ranking : List ℕ) → isRanking ranking ≡ true
       → said.ending x after ≡ end.endingOf (installed headers ranking (ended headers w)) buffer → InstalledRight b ranking buffer a after
-  install-right ranking r f = (λ i. (q i .0, b, q i .1), λ cs c. (leads-on b b (installing ranking buffer) refl cs c, promise cs c))
-    where
-      q : _≡_ {A = Answer × List ℕ} (mergedAs a, after) (installingOf (bookOf b) ranking buffer)
-      q =
-          told after
-          ∙ f
-          ∙ ap (λ (y : Merging). end.endingOf (installed headers ranking y) buffer) merges-as
-          ∙ ap (λ (u : Bool). end.endingOf (cond u (installed headers ranking (mergeOf headers (inForce (bookOf b)))) (refused Ranking)) buffer) (sym r)
-
-      promise : (cs : List Call) → benchAfter cs ≡ b → Installing ranking (inForce (bookAfter cs)) buffer (mergedAs a) after
-      promise cs c =
-          subst (λ (y : Answer × List ℕ). Installing ranking (inForce (bookAfter cs)) buffer (y .0) (y .1)) (sym (q ∙ ap (λ (j : Book). installingOf j ranking buffer) (book-is b cs c)))
-          (installs ranking buffer (inForce (bookAfter cs)) (all-covering cs) (lists-fit cs c))
+  install-right ranking r f =
+      right b a after (installing ranking buffer) (λ k. installingOf k ranking buffer) (λ ps. Installing ranking ps buffer) refl
+      (told after
+      ∙ f
+      ∙ ap (λ (y : Merging). end.endingOf (installed headers ranking y) buffer) merges-as
+      ∙ ap (λ (u : Bool). end.endingOf (cond u (installed headers ranking (mergeOf headers (inForce (bookOf b)))) (refused Ranking)) buffer) (sym r))
+      λ cs c. installs ranking buffer (inForce (bookAfter cs)) (all-covering cs) (lists-fit cs c)
 
 -- ---- install: no ranking
 
