@@ -1,9 +1,8 @@
 -- What checks 1 to 4 test, as facts on numbers.
 -- Assumes nothing.
-use Prim.Native.Nat.{ℕ, _+_, _*_, _-_, _/_, _%_, _≤_, _<_}
+use Prim.Native.Nat.{ℕ, _+_, _*_, _-_, _≤_, _<_}
 use native.Mathlib.Omega.{arith}
 use native.Mathlib.Numerals.{add-one}
-use native.Mathlib.Nat.{div-add-mod, mul-div-right, mul-mod-right}
 use mathlib.Core.Path.{_≡_, refl, sym, _∙_, ap}
 use mathlib.Core.Bool.{Bool, true, false, not, cond, _||_}
 use mathlib.Core.List.{List, [], _∷_}
@@ -20,6 +19,7 @@ use Rattle.policy.proofs.Bool.{not-false, clash, or-left, or-right}
 use Rattle.wire.specs.Format.{version, headSize, recordSize, lengthIn, versionIn, countIn, entryAt, entriesFrom}
 use Rattle.wire.specs.Lists.{emptyEntry}
 use Rattle.policy.proofs.Refusals.{Refuse, refusal-clash}
+use Rattle.wire.proofs.CountCheck.{compared-as-divided}
 use Rattle.wire.proofs.Entries.{length-entries, entries-at}
 use Rattle.wire.specs.Checks.{missized, badVersion, outside, badCount, firstCrossedFrom, firstCrossed, refuseEntry, checksOf}
 use Rattle.wire.specs.steps.Crossed.{crossedOf}
@@ -32,13 +32,6 @@ or-false-left false b e = refl
 pub or-false-right : (a b : Bool) → (a || b) ≡ false → b ≡ false
 or-false-right true b e = clash refl e
 or-false-right false b e = e
-
--- x divided by 28 is n with remainder 0 exactly if x is 28 times n
-pub divided : (x n : ℕ) → x ≡ recordSize * n → (x / recordSize ≡ n) × (x % recordSize ≡ 0)
-divided x n e = (ap (_/ recordSize) e ∙ mul-div-right n {m = recordSize} (omega arith), ap (_% recordSize) e ∙ mul-mod-right recordSize n)
-
-pub undivided : (x n : ℕ) → x / recordSize ≡ n → x % recordSize ≡ 0 → x ≡ recordSize * n
-undivided x n p q = omega (arith, div-add-mod x recordSize)
 
 -- n is 1 to the limit
 pub within-limits : (limit n : ℕ) → 1 ≤ n → n ≤ limit → outside limit n ≡ false
@@ -77,30 +70,24 @@ module _ (s : List ℕ) where
   right-version p = ap not (eq-eqb (versionIn s) version p)
 
   -- check 3
+  by-comparing : (limit : ℕ) → badCount s limit ≡ (outside limit (countIn s) || not (eqb (lengthIn s - 3) (recordSize * countIn s)))
+  by-comparing limit = ap (outside limit (countIn s) ||_) (sym (compared-as-divided recordSize (omega arith) (lengthIn s) (countIn s)))
+
   pub bad-limits : (limit : ℕ) → outside limit (countIn s) ≡ true → badCount s limit ≡ true
   bad-limits limit p = or-left _ _ p
 
   pub counted : (limit : ℕ) → outside limit (countIn s) ≡ false → lengthIn s - 3 ≡ recordSize * countIn s → badCount s limit ≡ false
-  counted limit p q =
-      let d = divided (lengthIn s - 3) (countIn s) q in
-      rw (p, eq-eqb ((lengthIn s - 3) / recordSize) (countIn s) (d .0), eq-eqb ((lengthIn s - 3) % recordSize) 0 (d .1))
+  counted limit p q = by-comparing limit ∙ rw (p, eq-eqb (lengthIn s - 3) (recordSize * countIn s) q)
 
   pub count-told : (limit : ℕ) → badCount s limit ≡ false → (outside limit (countIn s) ≡ false) × (lengthIn s - 3 ≡ recordSize * countIn s)
   count-told limit e =
-      let t = or-false-right (outside limit (countIn s)) _ e in
-      let q = not (eqb ((lengthIn s - 3) / recordSize) (countIn s)) in (
-        or-false-left (outside limit (countIn s)) _ e,
-        undivided (lengthIn s - 3) (countIn s)
-            (eqb-true ((lengthIn s - 3) / recordSize) (countIn s) (not-false (or-false-left q _ t)))
-            (eqb-true ((lengthIn s - 3) % recordSize) 0 (not-false (or-false-right q _ t))),
+      let t = sym (by-comparing limit) ∙ e in (
+        or-false-left _ _ t,
+        eqb-true (lengthIn s - 3) (recordSize * countIn s) (not-false (or-false-right (outside limit (countIn s)) _ t)),
       )
 
   pub miscounted : (limit : ℕ) → (lengthIn s - 3 ≡ recordSize * countIn s → ⊥) → badCount s limit ≡ true
-  miscounted limit p = go (badCount s limit) refl
-    where
-      go : (b : Bool) → badCount s limit ≡ b → badCount s limit ≡ true
-      go true e = e
-      go false e = absurd (p (count-told limit e .1))
+  miscounted limit p = by-comparing limit ∙ or-right (outside limit (countIn s)) _ (ap not (ne-eqb (lengthIn s - 3) (recordSize * countIn s) p))
 
 -- check 4, entry by entry: no entry before i is crossed, so the first crossed one is the first among those from i on
 abbrev pub Scanned : List Entry → ℕ → Type 0

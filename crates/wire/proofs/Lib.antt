@@ -3,6 +3,7 @@ pub mod Answers
 pub mod Numbers
 pub mod Entries
 pub mod Records
+pub mod CountCheck
 pub mod Checks
 pub mod Checked
 pub mod Lists
