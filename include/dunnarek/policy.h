@@ -79,6 +79,7 @@ extern "C" {
  * POLICY_MISSIZED to POLICY_CROSSED, for a file that is no list. Numbers are in the machine's own
  * byte order.
  * Each call checks the whole file before it looks: about 0.06 microseconds at 32 entries, 0.5 at 256.
+ * It runs no instruction that divides.
  */
 uint32_t policy_lookup(const uint8_t *file, size_t file_len,
                        uint32_t local, uint32_t remote,
