@@ -7,7 +7,7 @@ use mathlib.Core.Bool.{Bool, true, false, not, cond}
 use mathlib.Core.List.{List, [], _∷_, _++_}
 use mathlib.Core.Option.{Option, none, some}
 use lib.Dec.{eqb}
-use lib.ListN.{length, getD, drop, set, replicate, List·getD-map}
+use lib.ListN.{length, getD, set, replicate, List·getD-map}
 use borrow.Author.Tests.{eq-eqb, ne-eqb}
 use Rattle.policy.specs.declared.entry.Entry.{Entry}
 use Rattle.policy.specs.declared.refusal.Refusal.{Refusal}
@@ -19,7 +19,7 @@ use Rattle.policy.proofs.Bool.{not-true, not-false}
 use Rattle.policy.proofs.Refusals.{refusal-refuses, turns-away, goes-past}
 use Rattle.wire.specs.declared.check.Checked.{Checked}
 use Rattle.wire.specs.declared.check.Checked.the-variants.{Good, Refused}
-use Rattle.wire.specs.Format.{filedLimit, countIn, fileSize, recordsIn}
+use Rattle.wire.specs.Format.{filedLimit, versionIn, countIn, placeIn}
 use Rattle.wire.specs.Checks.{checked}
 use Rattle.wire.proofs.Checks.{within-limits, none-outside, past-outside}
 use Rattle.region.specs.ListChecks.{listChecks}
@@ -43,7 +43,8 @@ use Rattle.bench.specs.declared.calls.MergeAnswer.{MergeAnswer}
 use Rattle.bench.specs.declared.calls.MergeAnswer.the-variants as merge
 use Rattle.bench.specs.Book.{parties, Book, inForce}
 use Rattle.bench.specs.Answers.{filed, badParty, filingOf, withdrew, isVacant, withdrawalOf, mergedAs, mergingOf, installingOf}
-use Rattle.bench.specs.Held.{slotSize, vacantSlot, slotWith, bytesIn, listInSlot, bookOf, openBench, withSlot}
+use Rattle.wire.proofs.Sizes.{records-most}
+use Rattle.bench.specs.Held.{slotSize, vacantSlot, slotWith, listInSlot, bookOf, openBench, withSlot, slotList}
 use Rattle.wire.specs.steps.Fits.{AllFit}
 use Rattle.bench.specs.Calls.{Call, filing, withdrawal, merging, installing, benchFiled, benchWithdrawn, Result, resultOf, benchStep, benchAfter, bookAfter}
 use Rattle.bench.specs.Demand3.{Demand3}
@@ -113,8 +114,8 @@ good-fits s c n e q =
     let g = passes-tell s filedLimit (good-passes s filedLimit c n e q) .good in
     small (length s) (countIn s) (g .size) (g .most-is)
   where
-    small : (l n : ℕ) → l ≡ fileSize n → n ≤ filedLimit → l ≤ slotSize
-    small l n e m = omega arith
+    small : (l n : ℕ) → l ≡ placeIn s n → n ≤ filedLimit → l ≤ slotSize
+    small l n e m = omega (arith, records-most (versionIn s) n)
 
 -- ---- withdraw
 
@@ -129,7 +130,7 @@ withdrawn-refused b p x e =
 vacant-is : (b : Bench) (i : ℕ) → isVacant (getD (bookOf b) i none) ≡ eqb (getD (b .slots) i noSlot .length) 0
 vacant-is b i = ap isVacant (List·getD-map listInSlot (b .slots) i noSlot) ∙ go (eqb (getD (b .slots) i noSlot .length) 0)
   where
-    go : (t : Bool) → isVacant (cond t none (some (recordsIn (drop 5 (bytesIn (getD (b .slots) i noSlot)))))) ≡ t
+    go : (t : Bool) → isVacant (cond t none (some (slotList (getD (b .slots) i noSlot)))) ≡ t
     go true = refl
     go false = refl
 

@@ -21,7 +21,7 @@ use Rattle.policy.specs.Policy.{allowed, caught}
 use Rattle.policy.specs.Refusals.{Answer, refusal, accepted, isAccepted, refuse, firstOf}
 use Rattle.policy.proofs.Bool.{clash, is-false, not-true}
 use Rattle.policy.proofs.Refusals.{refusal-number, refusal-same, refusal-clash}
-use Rattle.wire.specs.Format.{listIn, fileSize, fileOf}
+use Rattle.wire.specs.Format.{mergedVersion, listIn, fileSize, fileOf}
 use Rattle.reconcile.specs.Crossproduct.{AllCovering}
 use Rattle.reconcile.specs.Rules.{Working, list, crowded, working, Merging, refused, merged, finished, mergeOf, conflictOf, commonActions, lacking, same}
 use Rattle.reconcile.proofs.Decide.{Witness}
@@ -99,9 +99,9 @@ module _ (buffer : List ℕ) where
 
   -- a merged list is accepted, or the buffer is narrow
   apart-merged {ℓ} : {A : Type ℓ} (m : List Entry) (r : Answer) → answerTo (merged m) ≡ r → (r .number ≡ 0 → ⊥) → (r .number ≡ 11 → ⊥) → A
-  apart-merged {A = A} m r e a n = go (ltb (length buffer) (fileSize (length m))) e
+  apart-merged {A = A} m r e a n = go (ltb (length buffer) (fileSize mergedVersion (length m))) e
     where
-      go : (b : Bool) → firstOf (refuse b (Narrow (fileSize (length m))) ∷ []) (accepted (length m ∷ fileSize (length m) ∷ [])) ≡ r → A
+      go : (b : Bool) → firstOf (refuse b (Narrow (fileSize mergedVersion (length m))) ∷ []) (accepted (length m ∷ fileSize mergedVersion (length m) ∷ [])) ≡ r → A
       go true e = absurd (n (sym (ap (λ (x : Answer). x .number) e)))
       go false e = absurd (a (sym (ap (λ (x : Answer). x .number) e)))
 
@@ -115,22 +115,22 @@ module _ (buffer : List ℕ) where
     pub list : List Entry
     pub is : r ≡ merged list
     pub count : length list ≡ n
-    pub size : fileSize (length list) ≡ l
-    pub after : bufferAfter r ≡ placed (fileOf list) buffer
+    pub size : fileSize mergedVersion (length list) ≡ l
+    pub after : bufferAfter r ≡ placed (fileOf mergedVersion list) buffer
 
   pub told-accepted : (r : Merging) (n l : ℕ) → answerTo r ≡ accepted (n ∷ l ∷ []) → Wrote r n l
   told-accepted (refused r) n l e = refusal-clash r (n ∷ l ∷ []) e
-  told-accepted (merged m) n l e = go (ltb (length buffer) (fileSize (length m))) refl e
+  told-accepted (merged m) n l e = go (ltb (length buffer) (fileSize mergedVersion (length m))) refl e
     where
-      go : (b : Bool) → ltb (length buffer) (fileSize (length m)) ≡ b
-          → firstOf (refuse b (Narrow (fileSize (length m))) ∷ []) (accepted (length m ∷ fileSize (length m) ∷ [])) ≡ accepted (n ∷ l ∷ []) → Wrote (merged m) n l
-      go true t e = refusal-clash (Narrow (fileSize (length m))) (n ∷ l ∷ []) e
+      go : (b : Bool) → ltb (length buffer) (fileSize mergedVersion (length m)) ≡ b
+          → firstOf (refuse b (Narrow (fileSize mergedVersion (length m))) ∷ []) (accepted (length m ∷ fileSize mergedVersion (length m) ∷ [])) ≡ accepted (n ∷ l ∷ []) → Wrote (merged m) n l
+      go true t e = refusal-clash (Narrow (fileSize mergedVersion (length m))) (n ∷ l ∷ []) e
       go false t e = record {
         list = m;
         is = refl;
         count = ap (λ (a : Answer). getD (a .values) 0 0) e;
         size = ap (λ (a : Answer). getD (a .values) 1 0) e;
-        after = ap (λ (b : Bool). ifAccepted (firstOf (refuse b (Narrow (fileSize (length m))) ∷ []) (accepted (length m ∷ fileSize (length m) ∷ []))) (placed (fileOf m) buffer) buffer) t;
+        after = ap (λ (b : Bool). ifAccepted (firstOf (refuse b (Narrow (fileSize mergedVersion (length m))) ∷ []) (accepted (length m ∷ fileSize mergedVersion (length m) ∷ []))) (placed (fileOf mergedVersion m) buffer) buffer) t;
       }
 
   -- a refusal leaves the buffer
@@ -141,25 +141,25 @@ module _ (buffer : List ℕ) where
   written r m e = record {
     list = m;
     by-the-rules = e;
-    long-enough = λ l. (ap answerTo e ∙ fits (le-ltb (length buffer) (fileSize (length m)) l), ap bufferAfter e ∙ file (le-ltb (length buffer) (fileSize (length m)) l));
-    too-short = λ l. ap answerTo e ∙ short (lt-ltb (length buffer) (fileSize (length m)) l);
+    long-enough = λ l. (ap answerTo e ∙ fits (le-ltb (length buffer) (fileSize mergedVersion (length m)) l), ap bufferAfter e ∙ file (le-ltb (length buffer) (fileSize mergedVersion (length m)) l));
+    too-short = λ l. ap answerTo e ∙ short (lt-ltb (length buffer) (fileSize mergedVersion (length m)) l);
   }
     where
-      fits : ltb (length buffer) (fileSize (length m)) ≡ false → answerTo (merged m) ≡ accepted (length m ∷ fileSize (length m) ∷ [])
-      fits t = ap (λ (b : Bool). firstOf (refuse b (Narrow (fileSize (length m))) ∷ []) (accepted (length m ∷ fileSize (length m) ∷ []))) t
+      fits : ltb (length buffer) (fileSize mergedVersion (length m)) ≡ false → answerTo (merged m) ≡ accepted (length m ∷ fileSize mergedVersion (length m) ∷ [])
+      fits t = ap (λ (b : Bool). firstOf (refuse b (Narrow (fileSize mergedVersion (length m))) ∷ []) (accepted (length m ∷ fileSize mergedVersion (length m) ∷ []))) t
 
-      file : ltb (length buffer) (fileSize (length m)) ≡ false → bufferAfter (merged m) ≡ placed (fileOf m) buffer
-      file t = ap (λ (b : Bool). ifAccepted (firstOf (refuse b (Narrow (fileSize (length m))) ∷ []) (accepted (length m ∷ fileSize (length m) ∷ []))) (placed (fileOf m) buffer) buffer) t
+      file : ltb (length buffer) (fileSize mergedVersion (length m)) ≡ false → bufferAfter (merged m) ≡ placed (fileOf mergedVersion m) buffer
+      file t = ap (λ (b : Bool). ifAccepted (firstOf (refuse b (Narrow (fileSize mergedVersion (length m))) ∷ []) (accepted (length m ∷ fileSize mergedVersion (length m) ∷ []))) (placed (fileOf mergedVersion m) buffer) buffer) t
 
-      short : ltb (length buffer) (fileSize (length m)) ≡ true → answerTo (merged m) ≡ refusal (Narrow (fileSize (length m)))
-      short t = ap (λ (b : Bool). firstOf (refuse b (Narrow (fileSize (length m))) ∷ []) (accepted (length m ∷ fileSize (length m) ∷ []))) t
+      short : ltb (length buffer) (fileSize mergedVersion (length m)) ≡ true → answerTo (merged m) ≡ refusal (Narrow (fileSize mergedVersion (length m)))
+      short t = ap (λ (b : Bool). firstOf (refuse b (Narrow (fileSize mergedVersion (length m))) ∷ []) (accepted (length m ∷ fileSize mergedVersion (length m) ∷ []))) t
 
   -- the list that is read from the start of the buffer is the one that was written
   pub read-again : (r : Merging) → ReadsBack r → (n l : ℕ) (w : Wrote r n l) (P : List Entry → ℕ → Type 0) → P (w .list) (length (w .list)) → P (listIn (take l (bufferAfter r))) n
   read-again r back n l w P p =
       subst (P (listIn (take l (bufferAfter r)))) (w .count)
       (subst (λ (m : List Entry). P m (length (w .list)))
-      (sym (ap listIn (ap (take l) (w .after) ∙ take-at (fileOf (w .list)) (drop (length (fileOf (w .list))) buffer) l (length-file (w .list) ∙ w .size) ∙ sym (append-nil (fileOf (w .list)))) ∙ back (w .list) (w .is) []))
+      (sym (ap listIn (ap (take l) (w .after) ∙ take-at (fileOf mergedVersion (w .list)) (drop (length (fileOf mergedVersion (w .list))) buffer) l (length-file mergedVersion (w .list) ∙ w .size) ∙ sym (append-nil (fileOf mergedVersion (w .list)))) ∙ back (w .list) (w .is) []))
       p)
 
   -- ---- all of it

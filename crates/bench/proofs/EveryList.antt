@@ -6,7 +6,7 @@ use mathlib.Core.Bool.{Bool, false, cond}
 use mathlib.Core.List.{List, [], _∷_, _++_}
 use Rattle.policy.specs.Header.{headers}
 use Rattle.policy.specs.Refusals.{isAccepted}
-use Rattle.wire.specs.Format.{headSize, countIn}
+use Rattle.wire.specs.Format.{countIn}
 use Rattle.wire.proofs.Records.{entries-fit}
 use Rattle.wire.specs.steps.Fits.{AllFit}
 use Rattle.reconcile.specs.Rules.{mergeOf}
@@ -40,7 +40,7 @@ bytes-before (installing k m ∷ xs) c later b = bytes-before xs c later b
 
 -- and the numbers of the lists in force fit their widths
 all-fit : (calls earlier later : List Call) (c : Call) → AllBytes calls → calls ≡ earlier ++ c ∷ later → AllListsFit (inForce (bookAfter earlier))
-all-fit calls earlier later c a e = all-in-force-of AllFit (λ p s b f. entries-fit s headSize (countIn s) b) earlier (bytes-before earlier c later (subst AllBytes e a))
+all-fit calls earlier later c a e = all-in-force-of AllFit (λ p s b f. entries-fit s 0 (countIn s) b) earlier (bytes-before earlier c later (subst AllBytes e a))
 
 -- demand 3: every merging in every list of calls keeps to it, for the book that 01 reckons from the calls before it
 pub every-merging : (calls earlier later : List Call) (buffer : List ℕ) → AllBytes calls → calls ≡ earlier ++ merging buffer ∷ later

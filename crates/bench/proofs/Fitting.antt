@@ -1,4 +1,4 @@
--- The numbers of a merged or installed list fit their widths where those of the lists in force do, so it reads back from its file.
+-- The numbers of a merged or installed list fit their bytes where those of the lists in force do, so it reads back from its file.
 -- Assumes nothing.
 use Prim.Native.Nat.{ℕ, zero, suc, _<_, min, max}
 use native.Mathlib.Omega.{arith}
@@ -15,14 +15,15 @@ use Rattle.policy.specs.declared.entry.Entry.{Entry}
 use Rattle.policy.specs.Row.{Row}
 use Rattle.policy.specs.Box.{Range, proper, highsFit, meet}
 use Rattle.policy.specs.steps.Boxes.{lows, fits}
-use Rattle.policy.specs.Header.{arity, sizes, headers}
+use Rattle.policy.specs.Header.{arity, headers}
 use Rattle.policy.specs.Ranking.{isRanking}
 use Rattle.policy.specs.Entry.{selector, matches, both}
 use Rattle.policy.specs.Policy.{Allowed, actions, uncaught, allowed}
 use Rattle.policy.proofs.Bool.{and-intro, and-left, and-right}
 use Rattle.policy.proofs.Ranked.{ranks-actions, best-fits}
-use Rattle.wire.specs.Format.{listLimit, listIn, fileOf}
-use Rattle.wire.specs.steps.Fits.{Fits, AllFit}
+use Rattle.wire.specs.Format.{mergedVersion, listLimit, listIn, fileOf}
+use Rattle.wire.specs.steps.Fits.{byteSizes, Fits, AllFit}
+use Rattle.wire.proofs.Records.{merged-hold}
 use Rattle.wire.proofs.RoundTrip.{written-and-read}
 use Rattle.reconcile.specs.Crossproduct.{In}
 use Rattle.reconcile.specs.Rules.{cross, dropEmpty, shadowed, dropShadowed, trimmed, Working, list, crowded, limited, next, nextAll, needless, struckFrom, struck, Merging, merged, mergeOf}
@@ -49,8 +50,8 @@ highs-fit (suc k) ns b c p =
 
 both-fit : (d e : Entry) → Fits d → Fits e → Fits (both d e)
 both-fit d e f g = record {
-  low-ends = lows-fit arity sizes (selector d) (selector e) (f .low-ends) (g .low-ends);
-  high-ends = highs-fit arity sizes (selector d) (selector e) (f .high-ends);
+  low-ends = lows-fit arity byteSizes (selector d) (selector e) (f .low-ends) (g .low-ends);
+  high-ends = highs-fit arity byteSizes (selector d) (selector e) (f .high-ends);
   set = and-lt 16 (d .actions) (e .actions) (f .set) (g .set);
 }
 
@@ -124,7 +125,7 @@ AllListsFit ps = (q : List Entry) → In q ps → AllFit q
 
 -- a list that a call is to write is read again from the start of what holds its file
 abbrev pub ReadsBack : Merging → Type 0
-ReadsBack x = (m : List Entry) → x ≡ merged m → (r : List ℕ) → listIn (fileOf m ++ r) ≡ m
+ReadsBack x = (m : List Entry) → x ≡ merged m → (r : List ℕ) → listIn (fileOf mergedVersion m ++ r) ≡ m
 
 pub merged-fit : (p : List Entry) (ps : List (List Entry)) → AllListsFit (p ∷ ps) → (m : List Entry) → mergeOf headers (p ∷ ps) ≡ merged m → AllFit m
 merged-fit p ps f m e =
@@ -134,7 +135,7 @@ merged-fit p ps f m e =
 
 pub reads-back : (ps : List (List Entry)) → AllListsFit ps → ReadsBack (mergeOf headers ps)
 reads-back [] f m e r = absurd (let z : _≡_ {A = ℕ} 0 1 = cc in omega arith)
-reads-back (p ∷ ps) f m e r = written-and-read m r (merged-few headers p ps m e) (merged-fit p ps f m e)
+reads-back (p ∷ ps) f m e r = written-and-read mergedVersion m r (merged-few headers p ps m e) (merged-hold m (merged-fit p ps f m e))
 
 -- ---- installing
 
@@ -160,7 +161,7 @@ best-fit ranking r (e ∷ p) f = (
 
 pub installed-reads-back : (ranking : List ℕ) → isRanking ranking ≡ true → (p : List Entry) (ps : List (List Entry)) → AllListsFit (p ∷ ps)
     → (m : List Entry) → mergeOf headers (p ∷ ps) ≡ merged m
-    → (r : List ℕ) → listIn (fileOf (struck headers (map (withBest ranking) m)) ++ r) ≡ struck headers (map (withBest ranking) m)
+    → (r : List ℕ) → listIn (fileOf mergedVersion (struck headers (map (withBest ranking) m)) ++ r) ≡ struck headers (map (withBest ranking) m)
 installed-reads-back ranking k p ps f m e r =
-    written-and-read (struck headers (map (withBest ranking) m)) r (installed-few headers ranking p ps m e)
-    (struck-fit [] (map (withBest ranking) m) (best-fit ranking k m (merged-fit p ps f m e)))
+    written-and-read mergedVersion (struck headers (map (withBest ranking) m)) r (installed-few headers ranking p ps m e)
+    (merged-hold (struck headers (map (withBest ranking) m)) (struck-fit [] (map (withBest ranking) m) (best-fit ranking k m (merged-fit p ps f m e))))

@@ -14,7 +14,7 @@ use Rattle.policy.specs.Ranking.{isRanking, only}
 use Rattle.policy.specs.Policy.{Allowed, actions, uncaught, allowed, isCaught}
 use Rattle.policy.proofs.Bool.{clash}
 use Rattle.policy.proofs.Refusals.{refusal-clash}
-use Rattle.wire.specs.Format.{listIn, fileOf}
+use Rattle.wire.specs.Format.{mergedVersion, listIn, fileOf}
 use Rattle.wire.specs.Answers.{ifAccepted}
 use Rattle.wire.specs.Writing.{placed}
 use Rattle.reconcile.specs.Crossproduct.{AllCovering}
@@ -117,7 +117,7 @@ module _ (ranking buffer : List ℕ) where
       back : ReadsBack x
       back m e s =
           let g = installed-tells headers ranking (mergeOf headers (p ∷ ps)) m e in
-          subst (λ (l : List Entry). listIn (fileOf l ++ s) ≡ l) (g .left) (installed-reads-back ranking r p ps fit (g .list) (g .is) s)
+          subst (λ (l : List Entry). listIn (fileOf mergedVersion l ++ s) ≡ l) (g .left) (installed-reads-back ranking r p ps fit (g .list) (g .is) s)
 
       said : (m : List Entry) → x ≡ merged m → InstalledList ranking (p ∷ ps) m (length m)
       said m e =

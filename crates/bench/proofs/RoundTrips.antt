@@ -20,7 +20,7 @@ use Rattle.wire.specs.declared.write.Written.{Written}
 use Rattle.wire.specs.declared.write.Written.the-variants as write
 use Rattle.wire.specs.Format.{Bytes, listLimit, fileSize}
 use Rattle.wire.specs.Checks.{checksOf, checked}
-use Rattle.wire.specs.Lists.{held, listed, reading, readingOf}
+use Rattle.wire.specs.Lists.{held, listed, noEntries, reading, readingOf}
 use Rattle.wire.specs.Writing.{placed, writeChecks, writing, writingOf, ReadAgain}
 use Rattle.wire.proofs.Answers.{after-accepted, after-refused}
 use Rattle.wire.proofs.Checked.{accepted-tells, refused-tells}
@@ -72,26 +72,26 @@ module _ (l : Entries) (b c : List ℕ) (w : Written) (e : writing w c ≡ writi
   pub written-within : (n : ℕ) → w ≡ write.Done n → length c ≡ length b → n ≤ length c
   written-within n g k =
       let t = accepted-write l b n (ap (λ (x : Answer × List ℕ). x .0) (told (write.Done n) g)) in
-      let z = ltb-false (length b) (fileSize (l .count)) (t .1 .1 .1) in
-      omega (arith, t .1 .1 .0)
+      let z = ltb-false (length b) (fileSize (l .version) (l .count)) (t .1 .1 .1 .1) in
+      omega (arith, t .1 .1 .1 .0)
 
-  pub reread-refused : (x : Refusal) (m : Entries) → w ≡ write.Refused x → m ≡ listed []
+  pub reread-refused : (x : Refusal) (m : Entries) → w ≡ write.Refused x → m ≡ noEntries
       → _≡_ {A = (Answer × Entries) × List ℕ} (reading (record { list = m; answer = check.Refused x }), c) (rereadingOf l b)
   reread-refused x m g h =
       let t = told (write.Refused x) g in
       let a : refusal x ≡ rereadAnswer l b =
-      refused-stays (writeChecks l b) (fileSize (l .count) ∷ []) x (accepted (l .count ∷ [])) (ap (λ (y : Answer × List ℕ). y .0) t) in
-      paired (paired a (h ∙ ap listed (after-refused x (rereadAnswer l b) (held l) [] a))) (ap (λ (y : Answer × List ℕ). y .1) t)
+      refused-stays (writeChecks l b) (fileSize (l .version) (l .count) ∷ []) x (accepted (l .count ∷ [])) (ap (λ (y : Answer × List ℕ). y .0) t) in
+      paired (paired a (h ∙ after-refused x (rereadAnswer l b) (listed (l .version) (held l)) noEntries a)) (ap (λ (y : Answer × List ℕ). y .1) t)
 
   pub reread-done : (n : ℕ) (r : Reading) → ReadAgain l w c → w ≡ write.Done n → reading r ≡ readingOf (take (n - 0) c)
       → _≡_ {A = (Answer × Entries) × List ℕ} (reading r, c) (rereadingOf l b)
   reread-done n r f g h =
       let t = told (write.Done n) g in
       let k = accepted-write l b n (ap (λ (y : Answer × List ℕ). y .0) t) in
-      let a : rereadAnswer l b ≡ accepted (l .count ∷ []) = rw (k .0, k .1 .0, k .1 .1 .1) in
-      let same : readingOf (take n c) ≡ (accepted (l .count ∷ []), listed (held l)) = subst (λ (x : Written). ReadAgain l x c) g f in
+      let a : rereadAnswer l b ≡ accepted (l .count ∷ []) = rw (k .0, k .1 .0, k .1 .1 .0, k .1 .1 .1 .1) in
+      let same : readingOf (take n c) ≡ (accepted (l .count ∷ []), listed (l .version) (held l)) = subst (λ (x : Written). ReadAgain l x c) g f in
       paired
-      (h ∙ ap (λ (k : ℕ). readingOf (take k c)) (whole n) ∙ same ∙ paired (sym a) (ap listed (after-accepted (l .count ∷ []) (rereadAnswer l b) (held l) [] (sym a))))
+      (h ∙ ap (λ (k : ℕ). readingOf (take k c)) (whole n) ∙ same ∙ paired (sym a) (after-accepted (l .count ∷ []) (rereadAnswer l b) (listed (l .version) (held l)) noEntries (sym a)))
       (ap (λ (y : Answer × List ℕ). y .1) t)
     where
       whole : (n : ℕ) → n - 0 ≡ n

@@ -1,19 +1,20 @@
 -- What the functions on slots show.
 -- Assumes nothing.
-use Prim.Native.Nat.{ℕ, zero, suc, _+_, _-_, _*_, _/_, _<_, _≤_, min, max}
+use Prim.Native.Nat.{ℕ, zero, suc, _+_, _-_, _/_, _<_, _≤_, min, max}
 use native.Mathlib.Omega.{arith}
+use native.Mathlib.Nat.{zero-div}
 use native.Mathlib.Numerals.{add-one}
 use mathlib.Core.Path.{_≡_, refl, sym, _∙_, ap, ap₂, subst}
 use mathlib.Core.Bool.{Bool, true, false, cond}
 use mathlib.Core.List.{List, [], _∷_, _++_, map, append-nil}
 use mathlib.Core.Option.{Option, none, some}
 use lib.Dec.{leb}
-use lib.ListN.{length, getD, take, drop, replicate, length-take, length-drop, length-map, List·getD-map}
-use lib.Seq.{paste, take-length, take-suc, take-all, take-nil}
+use lib.ListN.{length, getD, take, drop, replicate, length-take, length-map, List·getD-map}
+use lib.Seq.{paste, take-length, take-suc, take-all}
 use borrow.Author.Tests.{eq-eqb, ne-eqb, leb-true, leb-false}
 use Rattle.policy.specs.Header.{headers}
 use Rattle.policy.specs.declared.entry.Entry.{Entry}
-use Rattle.wire.specs.Format.{Bytes, headSize, recordSize, filedLimit, entriesFrom, recordsIn}
+use Rattle.wire.specs.Format.{Bytes, headSize, recordSize, filedLimit, versionIn, entriesFrom, recordsIn}
 use Rattle.wire.proofs.Records.{entries-fit}
 use Rattle.reconcile.specs.Rules.{Working}
 use Rattle.reconcile.specs.steps.Stage.{filedIn, added, addedAll}
@@ -54,54 +55,45 @@ slot-made s b e =
 -- ---- the list of a slot
 
 pub records-fit : (s : List ℕ) → Bytes s → AllFit (filedIn s)
-records-fit s f = entries-fit s 0 (min (length s / recordSize) filedLimit) f
+records-fit s f = entries-fit s 0 (min (recordsIn s) filedLimit) f
 
-drop-take : (k n : ℕ) (l : List ℕ) → drop k (take n l) ≡ take (n - k) (drop k l)
-drop-take zero n l = ap (λ (m : ℕ). take m l) (less n)
+-- no bytes behind a head, no entries
+none-behind : (s : List ℕ) → length s ≤ headSize → filedIn s ≡ []
+none-behind s l = ap (λ (n : ℕ). entriesFrom s 0 (min n filedLimit)) (ap (_/ recordSize (versionIn s)) (none (length s) l) ∙ zero-div (recordSize (versionIn s)))
   where
-    less : (n : ℕ) → n ≡ n - 0
-    less n = omega arith
-drop-take (suc k) zero [] = ap (λ (m : ℕ). take m []) (less k)
-  where
-    less : (k : ℕ) → 0 ≡ 0 - suc k
-    less k = omega arith
-drop-take (suc k) zero (x ∷ l) = ap (λ (m : ℕ). take m (drop k l)) (less k)
-  where
-    less : (k : ℕ) → 0 ≡ 0 - suc k
-    less k = omega arith
-drop-take (suc k) (suc n) [] = sym (take-nil (suc n - suc k))
-drop-take (suc k) (suc n) (x ∷ l) = drop-take k n l ∙ ap (λ (m : ℕ). take m (drop k l)) (less n k)
-  where
-    less : (n k : ℕ) → n - k ≡ suc n - suc k
-    less n k = omega arith
+    none : (n : ℕ) → n ≤ headSize → n - headSize ≡ 0
+    none n l = omega arith
 
--- the bytes lent are those behind the head of the slot's file
+-- the bytes lent are the slot's file, and at least a head
 pub slot-adds : (s r : Option Working) (slot : Slot) (end : ℕ) → length (slot .bytes) ≡ slotSize → end ≡ max headSize (min (slot .length) slotSize)
-    → (r ≡ added headers s (filedIn (take (end - headSize) (drop headSize (slot .bytes))))) × AllFit (filedIn (take (end - headSize) (drop headSize (slot .bytes))))
+    → (r ≡ added headers s (filedIn (take (end - 0) (drop 0 (slot .bytes))))) × AllFit (filedIn (take (end - 0) (drop 0 (slot .bytes))))
     → (r ≡ added headers s (slotList slot)) × AllFit (slotList slot)
 slot-adds s r slot end z e f =
-    subst (λ (p : List Entry). (r ≡ added headers s p) × AllFit p) (ap (entriesFrom t 0) (few (length t) (omega (arith, length-drop headSize (slot .bytes), length-take (end - headSize) (drop headSize (slot .bytes))))) ∙ ap recordsIn same) f
+    subst (λ (p : List Entry). (r ≡ added headers s p) × AllFit p) (ap (λ (n : ℕ). filedIn (take n (slot .bytes))) (all end) ∙ go (leb headSize (slot .length)) refl) f
   where
+    all : (n : ℕ) → n - 0 ≡ n
+    all n = omega arith
+
     t : List ℕ
-    t = take (end - headSize) (drop headSize (slot .bytes))
+    t = take end (slot .bytes)
 
-    few : (n : ℕ) → n ≤ recordSize * filedLimit → min (n / recordSize) filedLimit ≡ n / recordSize
-    few n l = omega arith
-
-    behind : List ℕ
-    behind = drop headSize (slot .bytes)
-
-    short : (n : ℕ) → n ≤ slotSize → max headSize (min n slotSize) - headSize ≡ n - headSize
-    short n l = omega arith
-
-    same : t ≡ drop headSize (bytesIn slot)
-    same = go (leb (slot .length) slotSize) refl ∙ sym (drop-take headSize (slot .length) (slot .bytes))
+    go : (b : Bool) → leb headSize (slot .length) ≡ b → filedIn t ≡ slotList slot
+    go true q = ap filedIn (same (leb (slot .length) slotSize) refl)
       where
-        go : (b : Bool) → leb (slot .length) slotSize ≡ b → t ≡ take (slot .length - headSize) behind
-        go true q = ap (λ (n : ℕ). take (n - headSize) behind) e ∙ ap (λ (n : ℕ). take n behind) (short (slot .length) (leb-true (slot .length) slotSize q))
-        go false q =
-            let m = leb-false (slot .length) slotSize q in
-            take-all (end - headSize) behind (omega (arith, length-drop headSize (slot .bytes))) ∙ sym (take-all (slot .length - headSize) behind (omega (arith, length-drop headSize (slot .bytes))))
+        long : headSize ≤ slot .length
+        long = leb-true headSize (slot .length) q
+
+        within : (n : ℕ) → headSize ≤ n → n ≤ slotSize → max headSize (min n slotSize) ≡ n
+        within n a b = omega arith
+
+        same : (b : Bool) → leb (slot .length) slotSize ≡ b → t ≡ bytesIn slot
+        same true w = ap (λ (n : ℕ). take n (slot .bytes)) (e ∙ within (slot .length) long (leb-true (slot .length) slotSize w))
+        same false w =
+            let m = leb-false (slot .length) slotSize w in
+            take-all end (slot .bytes) (omega arith) ∙ sym (take-all (slot .length) (slot .bytes) (omega arith))
+    go false q =
+        let m = leb-false headSize (slot .length) q in
+        none-behind t (omega (arith, length-take end (slot .bytes))) ∙ sym (none-behind (bytesIn slot) (omega (arith, length-take (slot .length) (slot .bytes))))
 
 -- ---- the lists of all slots
 

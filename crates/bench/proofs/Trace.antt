@@ -11,7 +11,7 @@ use Rattle.policy.specs.declared.entry.Entry.{Entry}
 use Rattle.policy.specs.Header.{headers}
 use Rattle.policy.specs.Policy.{Covering}
 use Rattle.policy.specs.Refusals.{isAccepted}
-use Rattle.wire.specs.Format.{Bytes, filedLimit, countIn, listIn}
+use Rattle.wire.specs.Format.{Bytes, countIn, listIn}
 use Rattle.reconcile.specs.Crossproduct.{In, AllCovering}
 use Rattle.bench.specs.declared.calls.Bench.{Bench}
 use Rattle.bench.specs.Book.{Book, emptyBook, inForce}
@@ -45,7 +45,7 @@ step-holds b (filing p s) = go (isAccepted (filingOf p s)) refl
     go : (t : Bool) → isAccepted (filingOf p s) ≡ t → bookOf (cond t (withSlot b p (slotWith s)) b) ≡ cond t (set (bookOf b) (p - 1) (some (listIn s))) (bookOf b)
     go true e =
         map-set listInSlot (b .slots) (p - 1) (slotWith s)
-        ∙ ap (set (bookOf b) (p - 1)) (slot-holds s filedLimit (countIn s) (filing-tells p s e .file .good))
+        ∙ ap (set (bookOf b) (p - 1)) (slot-holds s (countIn s) (filing-tells p s e .file .good))
     go false e = refl
 step-holds b (withdrawal p) = go (isAccepted (withdrawalOf (bookOf b) p))
   where

@@ -10,7 +10,7 @@ use Rattle.wire.specs.declared.list.Entries.{Entries}
 use Rattle.wire.specs.Format.{listLimit}
 use Rattle.wire.specs.Answers.{ifAccepted}
 use Rattle.wire.specs.Checks.{fileChecks}
-use Rattle.wire.specs.Lists.{held, listed}
+use Rattle.wire.specs.Lists.{held, listed, noEntries}
 use Rattle.wire.specs.Writing.{placed, writeChecks, writingOf}
 
 -- ---- a file read as a list and written again is the same file
@@ -22,7 +22,7 @@ rewriteChecks s buffer = fileChecks s listLimit ++ refuse (ltb (length buffer) (
 abbrev pub rewriteAnswer : List ℕ → List ℕ → Answer
 rewriteAnswer s buffer = firstOf (rewriteChecks s buffer) (accepted (length s ∷ []))
 
--- the answer, and the buffer's final contents: the same file at its start
+-- the answer, and the buffer's final contents: the same file at its start, in its version
 abbrev pub rewritingOf : List ℕ → List ℕ → Answer × List ℕ
 rewritingOf s buffer = (rewriteAnswer s buffer, ifAccepted (rewriteAnswer s buffer) (placed s buffer) buffer)
 
@@ -32,6 +32,7 @@ rewritingOf s buffer = (rewriteAnswer s buffer, ifAccepted (rewriteAnswer s buff
 abbrev pub rereadAnswer : Entries → List ℕ → Answer
 rereadAnswer l buffer = firstOf (writeChecks l buffer) (accepted (l .count ∷ []))
 
--- the answer, the list that was read, which is the same in the first places, and the buffer's final contents; no entries where it is refused
+-- the answer, the list that was read, which is the same in the first places and has the same version, and the buffer's final contents; no entries where it is
+-- refused
 abbrev pub rereadingOf : Entries → List ℕ → (Answer × Entries) × List ℕ
-rereadingOf l buffer = ((rereadAnswer l buffer, listed (ifAccepted (rereadAnswer l buffer) (held l) [])), writingOf l buffer .1)
+rereadingOf l buffer = ((rereadAnswer l buffer, ifAccepted (rereadAnswer l buffer) (listed (l .version) (held l)) noEntries), writingOf l buffer .1)

@@ -12,7 +12,7 @@ use Rattle.policy.specs.declared.refusal.Refusal.the-variants.{Bare, Crowded, C
 use Rattle.policy.specs.Header.{before, among, headers}
 use Rattle.policy.specs.Policy.{allowed, caught, Equivalent, Refines}
 use Rattle.policy.specs.Refusals.{Answer, refusal, accepted, isAccepted}
-use Rattle.wire.specs.Format.{listIn, fileSize, fileOf}
+use Rattle.wire.specs.Format.{mergedVersion, listIn, fileSize, fileOf}
 use Rattle.wire.specs.Writing.{placed}
 use Rattle.reconcile.specs.Crossproduct.{CorrectReconciliation, Tuple, OrderedCrossproduct, entriesOf}
 use Rattle.reconcile.specs.Rules.{crowded, working, Merging, merged, mergeOf, permits, allPermit}
@@ -36,9 +36,9 @@ WithinLimit (p ∷ ps) = working headers p ps ≡ crowded → ⊥
 pub record Accepted (rules : Merging) (buffer : List ℕ) (answer : Answer) (after : List ℕ) : Type 0 where
   pub list : List Entry
   pub by-the-rules : rules ≡ merged list
-  pub long-enough : fileSize (length list) ≤ length buffer
-      → (answer ≡ accepted (length list ∷ fileSize (length list) ∷ [])) × (after ≡ placed (fileOf list) buffer)
-  pub too-short : length buffer < fileSize (length list) → answer ≡ refusal (Narrow (fileSize (length list)))
+  pub long-enough : fileSize mergedVersion (length list) ≤ length buffer
+      → (answer ≡ accepted (length list ∷ fileSize mergedVersion (length list) ∷ [])) × (after ≡ placed (fileOf mergedVersion list) buffer)
+  pub too-short : length buffer < fileSize mergedVersion (length list) → answer ≡ refusal (Narrow (fileSize mergedVersion (length list)))
 
 -- striking any one entry of m leaves some header uncaught or allowed a different set
 abbrev pub Irredundant : List Entry → Type 0

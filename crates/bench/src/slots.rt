@@ -3,9 +3,8 @@ use reconcile::stage::ROWS;
 use reconcile::stage::Stage;
 use reconcile::stage::add_list;
 use reconcile::stage::no_list;
-use wire::format::FILED_LIMIT;
+use wire::format::FILED_SIZE;
 use wire::format::HEAD_SIZE;
-use wire::format::RECORD_SIZE;
 use wire::put::put_bytes;
 ghost use mathlib.Core.Path.{_≡_};
 ghost use mathlib.Core.List.{map};
@@ -19,7 +18,7 @@ ghost use Rattle.bench.specs.steps.Staged.{Staged};
 ghost use Rattle.wire.specs.steps.Fits.{AllFit};
 
 // As many bytes as the longest filed list has.
-pub const SLOT_SIZE: usize = HEAD_SIZE + RECORD_SIZE * FILED_LIMIT;
+pub const SLOT_SIZE: usize = FILED_SIZE;
 
 // The bytes of a party's filed list, as many as length says; 0 where the party has none.
 pub struct Slot {
@@ -50,15 +49,16 @@ pub(crate) fn slot_with(file: &[u8]) -> Slot
     }
 }
 
-// Rules 1 and 2 for a lent list more. Its numbers fit their widths, since they are read from bytes.
-fn add_records(s: Stage, rows: &mut [u32; ROWS], records: &[u8]) -> Stage
-    ensures { λ r. ⌜ (stageIn r ≡ added headers (stageIn s) (filedIn (now (records .entry)))) × AllFit (filedIn (now (records .entry))) ⌝ }
+// Rules 1 and 2 for the list of a lent file more. Its numbers fit their bytes, since they are read from bytes.
+fn add_file(s: Stage, rows: &mut [u32; ROWS], file: &[u8]) -> Stage
+    requires { ⌜ headSize ≤ length (now file) ⌝ }
+    ensures { λ r. ⌜ (stageIn r ≡ added headers (stageIn s) (filedIn (now (file .entry)))) × AllFit (filedIn (now (file .entry))) ⌝ }
 {
-    add_list(s, rows, records)
+    add_list(s, rows, file)
 }
 
-// Where the records end in a slot whose file has a length.
-fn records_end(length: usize) -> usize
+// Where the file ends in a slot that has a length, whatever the length: behind a head, and within the slot.
+fn file_end(length: usize) -> usize
     ensures { λ r. ⌜ r ≡ max headSize (min length slotSize) ⌝ }
 {
     if length < HEAD_SIZE {
@@ -74,9 +74,9 @@ fn records_end(length: usize) -> usize
 fn add_slot(s: Stage, rows: &mut [u32; ROWS], slot: Slot) -> Stage
     ensures { λ r. ⌜ (stageIn r ≡ added headers (stageIn s) (slotList slot)) × AllFit (slotList slot) ⌝ }
 {
-    let end = records_end(slot.length);
+    let end = file_end(slot.length);
     let bytes = slot.bytes;
-    add_records(s, rows, &bytes[HEAD_SIZE..end])
+    add_file(s, rows, &bytes[0..end])
 }
 
 // Rules 1 and 2 for the lists of all slots. The rows that are lent may hold anything.

@@ -121,6 +121,20 @@ fn set_file(buffer: &mut [u8], n: u16)
     }
 }
 
+// A good file of version 2, of n entries: records have a direction, 0 to 1, before the action set.
+fn set_wide_file(buffer: &mut [u8], n: u16)
+    requires { ⌜ n ≤ 257 ⌝ }
+{
+    set_head(buffer, 3 + 30 * n, 2, n);
+    let mut i: usize = 0;
+    while i < n as usize {
+        set_record(buffer, 5 + 30 * i);
+        set_number(buffer, 31 + 30 * i, 1);
+        set_number(buffer, 33 + 30 * i, 1);
+        i += 1;
+    }
+}
+
 // A range with both ends 0, or its low 1 above its high; the low's bytes start at a place.
 fn set_range(buffer: &mut [u8], at: usize, width: usize, low: u8)
     requires { ⌜ (at ≤ 10000) × (width ≤ 4) ⌝ }
@@ -164,9 +178,22 @@ fn try_versions(buffer: &mut [u8]) {
     set_head(buffer, 31, 1, 1);
     try_file(b"version-1", buffer, 33, 256);
     set_head(buffer, 31, 2, 1);
-    try_file(b"version-2", buffer, 33, 256);
+    try_file(b"version-2-of-28", buffer, 33, 256);
+}
+
+fn try_later_versions(buffer: &mut [u8]) {
+    set_head(buffer, 31, 3, 1);
+    try_file(b"version-3", buffer, 33, 256);
     set_head(buffer, 31, 255, 1);
     try_file(b"version-255", buffer, 33, 256);
+}
+
+// The record of one entry has 28 bytes in version 1, and 30 in version 2.
+fn try_record_sizes(buffer: &mut [u8]) {
+    set_wide_file(buffer, 1);
+    try_file(b"version-2-of-30", buffer, 35, 256);
+    set_head(buffer, 33, 1, 1);
+    try_file(b"version-1-of-30", buffer, 35, 256);
 }
 
 // n against its limits, 32 and 256.
@@ -194,6 +221,18 @@ fn try_great_counts(buffer: &mut [u8]) {
     set_file(buffer, 257);
     try_file(b"entries-257-of-32", buffer, 7201, 32);
     try_file(b"entries-257-of-256", buffer, 7201, 256);
+}
+
+// The same in version 2.
+fn try_wide_counts(buffer: &mut [u8]) {
+    set_wide_file(buffer, 32);
+    try_file(b"wide-32-of-32", buffer, 965, 32);
+    set_wide_file(buffer, 33);
+    try_file(b"wide-33-of-32", buffer, 995, 32);
+    set_wide_file(buffer, 256);
+    try_file(b"wide-256-of-256", buffer, 7685, 256);
+    set_wide_file(buffer, 257);
+    try_file(b"wide-257-of-256", buffer, 7715, 256);
 }
 
 // n against L: one entry, with another n.
@@ -244,6 +283,29 @@ fn try_protocols(buffer: &mut [u8]) {
     try_crossed(b"crossed-protocol-last", buffer, 2, 24, 1);
 }
 
+// The last of three entries with these ends of its direction.
+fn try_direction(name: &[u8], buffer: &mut [u8], low: u8, high: u8) {
+    set_wide_file(buffer, 3);
+    set_byte(buffer, 91, low);
+    set_byte(buffer, 92, high);
+    try_file(name, buffer, 95, 256);
+}
+
+fn try_good_directions(buffer: &mut [u8]) {
+    try_direction(b"direction-0-0", buffer, 0, 0);
+    try_direction(b"direction-0-1", buffer, 0, 1);
+    try_direction(b"direction-1-1", buffer, 1, 1);
+}
+
+// An end above 1 counts as crossed, also where the low is at most the high.
+fn try_crossed_directions(buffer: &mut [u8]) {
+    try_direction(b"direction-1-0", buffer, 1, 0);
+    try_direction(b"direction-0-2", buffer, 0, 2);
+    try_direction(b"direction-2-2", buffer, 2, 2);
+    try_direction(b"direction-2-1", buffer, 2, 1);
+    try_direction(b"direction-0-255", buffer, 0, 255);
+}
+
 // Every low of the first entry at its high.
 fn set_equal(buffer: &mut [u8]) {
     set_range(buffer, 5, 4, 0);
@@ -268,24 +330,29 @@ fn try_order(buffer: &mut [u8]) {
     set_file(buffer, 33);
     set_range(buffer, 5, 4, 1);
     try_file(b"count-and-crossed", buffer, 929, 32);
-    set_head(buffer, 927, 2, 33);
+    set_head(buffer, 927, 3, 33);
     try_file(b"version-and-count", buffer, 929, 32);
     try_file(b"missized-and-version", buffer, 928, 256);
 }
 
 fn main() {
-    let mut buffer = [0u8; 7201];
+    let mut buffer = [0u8; 7715];
     try_short(&mut buffer);
     try_lengths(&mut buffer);
     try_versions(&mut buffer);
+    try_later_versions(&mut buffer);
+    try_record_sizes(&mut buffer);
     try_small_counts(&mut buffer);
     try_filed_counts(&mut buffer);
     try_great_counts(&mut buffer);
+    try_wide_counts(&mut buffer);
     try_other_counts(&mut buffer);
     try_remainders(&mut buffer);
     try_addresses(&mut buffer);
     try_ports(&mut buffer);
     try_protocols(&mut buffer);
+    try_good_directions(&mut buffer);
+    try_crossed_directions(&mut buffer);
     try_equal(&mut buffer);
     try_order(&mut buffer);
 }

@@ -8,12 +8,12 @@ use region::covering::check_rows;
 use wire::check::Checked;
 use wire::format::FILED_LIMIT;
 use wire::format::LIST_LIMIT;
-use wire::format::RECORD_SIZE;
+use wire::record::records_in;
 ghost use mathlib.Core.Path.{_≡_};
-ghost use Prim.Native.Nat.{_*_, _/_, _≤_, min};
+ghost use Prim.Native.Nat.{_*_, _≤_, min};
 ghost use lib.ListN.{length};
 ghost use Rattle.policy.specs.steps.Rows.{rowSize};
-ghost use Rattle.wire.specs.Format.{recordSize, filedLimit, listLimit};
+ghost use Rattle.wire.specs.Format.{recordsIn, filedLimit, listLimit};
 ghost use Rattle.compare.specs.Comparison.{compared, comparisonOf};
 
 pub enum Compared {
@@ -29,7 +29,7 @@ pub enum Compared {
 // Whether the first file refines the second, or the least header where it does not; or why a file is refused. Each is decoded into the rows
 // that are lent for it.
 fn compare_decoded(first: &[u8], second: &[u8], p: &mut [u32], q: &mut [u32]) -> Compared
-    requires { ⌜ (rowSize * min (length (now first) / recordSize) listLimit ≤ length (now p)) × (rowSize * min (length (now second) / recordSize) listLimit ≤ length (now q)) ⌝ }
+    requires { ⌜ (rowSize * min (recordsIn (now first)) listLimit ≤ length (now p)) × (rowSize * min (recordsIn (now second)) listLimit ≤ length (now q)) ⌝ }
     ensures { λ r. ⌜ compared r ≡ comparisonOf (now (first .entry)) (now (second .entry)) ⌝ }
 {
     match check_rows(first, p) {
@@ -48,9 +48,9 @@ fn compare_decoded(first: &[u8], second: &[u8], p: &mut [u32], q: &mut [u32]) ->
     }
 }
 
-// The same of files no longer than filed ones: less memory is cleared.
+// The same of files of no more records than filed ones have: less memory is cleared.
 fn compare_short(first: &[u8], second: &[u8]) -> Compared
-    requires { ⌜ (length (now first) / recordSize ≤ filedLimit) × (length (now second) / recordSize ≤ filedLimit) ⌝ }
+    requires { ⌜ (recordsIn (now first) ≤ filedLimit) × (recordsIn (now second) ≤ filedLimit) ⌝ }
     ensures { λ r. ⌜ compared r ≡ comparisonOf (now (first .entry)) (now (second .entry)) ⌝ }
 {
     let mut p = [0u32; ROW * FILED_LIMIT];
@@ -70,8 +70,8 @@ fn compare_long(first: &[u8], second: &[u8]) -> Compared
 pub fn compare_files(first: &[u8], second: &[u8]) -> Compared
     ensures { λ r. ⌜ compared r ≡ comparisonOf (now (first .entry)) (now (second .entry)) ⌝ }
 {
-    if first.len() / RECORD_SIZE <= FILED_LIMIT {
-        if second.len() / RECORD_SIZE <= FILED_LIMIT {
+    if records_in(first) <= FILED_LIMIT {
+        if records_in(second) <= FILED_LIMIT {
             return compare_short(first, second);
         }
     }

@@ -22,11 +22,11 @@ use Rattle.reconcile.proofs.Model.{mergeBy-is}
 
 -- ---- how 01 writes headers and entries
 
--- a header as five numbers
+-- a header as 01's five numbers, inbound
 abbrev at : ℕ → ℕ → ℕ → ℕ → ℕ → Header
-at l r p q t = header (l, (r, (p, (q, (t, tt)))))
+at l r p q t = header (l, (r, (p, (q, (t, (0, tt))))))
 
--- every address, port and protocol
+-- every address, port, protocol and direction
 abbrev anyAddress : Range
 anyAddress = everything .0
 
@@ -36,16 +36,19 @@ anyPort = everything .1 .1 .0
 abbrev anyProtocol : Range
 anyProtocol = everything .1 .1 .1 .1 .0
 
+abbrev bothWays : Range
+bothWays = everything .1 .1 .1 .1 .1 .0
+
 -- ALL
 abbrev all : ℕ → Entry
 all s = entry everything s
 
 -- some local addresses; remote addresses, local ports and protocols; protocols
 abbrev fromLocal : Range → ℕ → Entry
-fromLocal a s = entry (a, (anyAddress, (anyPort, (anyPort, (anyProtocol, tt))))) s
+fromLocal a s = entry (a, (anyAddress, (anyPort, (anyPort, (anyProtocol, (bothWays, tt)))))) s
 
 abbrev selecting : Range → Range → Range → ℕ → Entry
-selecting a l n s = entry (anyAddress, (a, (l, (anyPort, (n, tt))))) s
+selecting a l n s = entry (anyAddress, (a, (l, (anyPort, (n, (bothWays, tt)))))) s
 
 abbrev protocols : Range → ℕ → Entry
 protocols n s = selecting anyAddress anyPort n s

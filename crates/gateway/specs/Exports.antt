@@ -24,6 +24,6 @@ hasHeader (v ∷ vs) = true
 abbrev pub comparisonNumber : ComparisonAnswer → ℕ
 comparisonNumber r = cond (isAccepted (r .answer)) (cond (hasHeader (r .answer .values)) 1 0) (r .file * 256 + r .answer .number)
 
--- the lent buffer after a comparison: on 1 the header goes to its first 13 bytes, if it has 13; no other byte is written
+-- the lent buffer after a comparison: on 1 the header goes to its first 14 bytes, if it has 14; no other byte is written
 abbrev pub headerLent : ComparisonAnswer → List ℕ → List ℕ
 headerLent r buffer = cond (isAccepted (r .answer) && hasHeader (r .answer .values)) (headerPut (r .answer .values) buffer) buffer

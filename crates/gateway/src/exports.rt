@@ -23,8 +23,9 @@ pub extern "C" fn policy_lookup(
     local_port: u16,
     remote_port: u16,
     protocol: u8,
+    direction: u8,
 ) -> u32
-    ensures { λ r. ⌜ r ≡ lookupNumber (lookupOf (now (file .entry)) (header (local, (remote, («local_port», («remote_port», (protocol, tt))))))) ⌝ }
+    ensures { λ r. ⌜ r ≡ lookupNumber (lookupOf (now (file .entry)) (header (local, (remote, («local_port», («remote_port», (protocol, (direction, tt)))))))) ⌝ }
 {
     let h = Header {
         local,
@@ -32,6 +33,7 @@ pub extern "C" fn policy_lookup(
         local_port,
         remote_port,
         protocol,
+        direction,
     };
     match lookup_number(file, h) {
         Looked::Entry(i) => i as u32,
@@ -41,7 +43,7 @@ pub extern "C" fn policy_lookup(
 }
 
 // 0 if the first file refines the second, 1 if it does not, or the file's number times 256 plus the number of the refusal.
-// On 1 the least header where it does not goes to the first 13 bytes of the buffer, if it has 13.
+// On 1 the least header where it does not goes to the first 14 bytes of the buffer, if it has 14.
 #[no_mangle]
 pub extern "C" fn policy_compare(first: &[u8], second: &[u8], buffer: &mut [u8]) -> u32
     ensures { λ r. ⌜ _≡_ {A = ℕ × List ℕ} (r, now (buffer .exit))

@@ -1,6 +1,6 @@
 -- Lookup in a file, by the answer of its checks and what first match finds; and what lookup's answer tells of the record.
 -- Assumes nothing.
-use Prim.Native.Nat.{ℕ, suc, _+_, _*_, _-_, _<_, _≤_}
+use Prim.Native.Nat.{ℕ, suc, _+_, _-_, _<_, _≤_}
 use native.Mathlib.Nat.{add-comm, zero-add}
 use native.Mathlib.Omega.{arith}
 use mathlib.Core.Path.{_≡_, refl, sym, ap, _∙_}
@@ -24,10 +24,12 @@ use Rattle.policy.proofs.Refusals.{Pass, Refuse, refuse-refuses, refusal-refuse
 use Rattle.policy.proofs.Policy.{caught-by}
 use Rattle.wire.specs.declared.check.Checked.{Checked}
 use Rattle.wire.specs.declared.check.Checked.the-variants.{Good, Refused}
-use Rattle.wire.specs.Format.{headSize, recordSize, listLimit, countIn, listIn, entryAt, entriesFrom}
+use Rattle.wire.specs.Format.{recordSize, listLimit, versionIn, countIn, placeIn, listIn, entryAt, entriesFrom}
+use Rattle.wire.specs.steps.Numbered.{recordIn}
 use Rattle.wire.specs.Checks.{missized, badVersion, badCount, firstCrossed, refuseEntry, fileChecks, checksOf, checked}
 use Rattle.wire.proofs.Checked.{accepted-tells, good-tells, refused-tells}
-use Rattle.wire.proofs.Entries.{same-entry, length-entries, entries-at}
+use Rattle.wire.proofs.Entries.{same-entry, length-entries, first-at}
+use Rattle.wire.proofs.Sizes.{entry-there}
 use Rattle.lookup.specs.declared.file.Looked.{Looked}
 use Rattle.lookup.specs.declared.file.Looked.the-variants.{Entry as Found, Uncaught, Refused as Turned}
 use Rattle.lookup.specs.Lookup.{caughtValues, headerCatcher, looked, lookupOf, Part, recordPart, noPart, partFor, lentPart}
@@ -52,18 +54,18 @@ header-caught p h i e = go (among headers h) e
 
 -- ---- from the checks and first match to the answer
 
-pub good-room : (s : List ℕ) (c : Checked) (n : ℕ) → checked c ≡ checksOf s listLimit → c ≡ Good n → headSize + recordSize * n ≤ length s
+pub good-room : (s : List ℕ) (c : Checked) (n : ℕ) → checked c ≡ checksOf s listLimit → c ≡ Good n → placeIn s n ≤ length s
 good-room s c n e g = let z = good-tells s listLimit c n e g .size in omega arith
 
 module _ (s : List ℕ) (h : Header) (c : Checked) (e : checked c ≡ checksOf s listLimit) where
   pub refused-answer : (x : Refusal) → c ≡ Refused x → refusal x ≡ lookupOf s h
   refused-answer x g = refused-tells s listLimit c x e g [] (accepted (caughtValues (headerCatcher (listIn s) h)))
 
-  module _ (n : ℕ) (g : c ≡ Good n) (k : Caught) (found : k ≡ headerCatcher (entriesFrom s headSize n) h) where
+  module _ (n : ℕ) (g : c ≡ Good n) (k : Caught) (found : k ≡ headerCatcher (entriesFrom s 0 n) h) where
     good-answer : accepted (caughtValues k) ≡ lookupOf s h
     good-answer =
         let t = good-tells s listLimit c n e g in
-        ap (λ (x : Caught). accepted (caughtValues x)) (found ∙ ap (λ (m : ℕ). headerCatcher (entriesFrom s headSize m) h) (sym (t .count-is)))
+        ap (λ (x : Caught). accepted (caughtValues x)) (found ∙ ap (λ (m : ℕ). headerCatcher (entriesFrom s 0 m) h) (sym (t .count-is)))
         ∙ sym (t .passes [] (accepted (caughtValues (headerCatcher (listIn s) h))))
 
     pub caught-answer : (i : ℕ) → k ≡ By i → accepted (i ∷ []) ≡ lookupOf s h
@@ -98,8 +100,8 @@ module _ (s : List ℕ) (h : Header) (l : Looked) (e : looked l ≡ lookupOf s h
     values-are : vs ≡ caughtValues (headerCatcher (listIn s) h)
     values-are = ap (λ (x : Answer). x .values) (sym a ∙ e ∙ passes (fileChecks s listLimit) (accepted (caughtValues (headerCatcher (listIn s) h))) pass)
 
-    part-is : partFor s h ≡ recordPart (headerCatcher (listIn s) h)
-    part-is = ap (λ (x : Answer). cond (isAccepted x) (recordPart (headerCatcher (listIn s) h)) noPart) good
+    part-is : partFor s h ≡ recordPart s (headerCatcher (listIn s) h)
+    part-is = ap (λ (x : Answer). cond (isAccepted x) (recordPart s (headerCatcher (listIn s) h)) noPart) good
 
   catcher-is : (i : ℕ) → l ≡ Found i → headerCatcher (listIn s) h ≡ By i
   catcher-is i q = go (headerCatcher (listIn s) h) refl (values-are (i ∷ []) (ap looked q))
@@ -109,36 +111,36 @@ module _ (s : List ℕ) (h : Header) (l : Looked) (e : looked l ≡ lookupOf s h
       go catch.Uncaught u v = absurd (let z : _≡_ {A = ℕ} 0 1 = cc in omega arith)
 
   -- the record of the entry that was found lies in the file, and is the part
-  pub record-fits : (i : ℕ) → l ≡ Found i → headSize + recordSize * i + recordSize ≤ length s
+  pub record-fits : (i : ℕ) → l ≡ Found i → placeIn s (i + 1) ≤ length s
   record-fits i q =
       let f = caught-below (listIn s) h i (header-caught (listIn s) h i (catcher-is i q)) in
-      let n = length-entries s headSize (countIn s) in
+      let n = length-entries s 0 (countIn s) in
       let z = accepted-tells s listLimit (countIn s) (sym (good (i ∷ []) (ap looked q))) .size in
-      omega arith
+      entry-there s i (countIn s) (omega arith) z
 
   -- its number is one of a list of up to 256
   pub entry-small : (i : ℕ) → l ≡ Found i → i < listLimit
   entry-small i q =
       let f = caught-below (listIn s) h i (header-caught (listIn s) h i (catcher-is i q)) in
-      let n = length-entries s headSize (countIn s) in
+      let n = length-entries s 0 (countIn s) in
       let z = accepted-tells s listLimit (countIn s) (sym (good (i ∷ []) (ap looked q))) .most-is in
       omega arith
 
-  pub record-part : (i : ℕ) → l ≡ Found i → recordPart (By i) ≡ partFor s h
-  record-part i q = sym (part-is (i ∷ []) (ap looked q) ∙ ap recordPart (catcher-is i q))
+  pub record-part : (i : ℕ) → l ≡ Found i → recordPart s (By i) ≡ partFor s h
+  record-part i q = sym (part-is (i ∷ []) (ap looked q) ∙ ap (recordPart s) (catcher-is i q))
 
   -- where nothing catches, or the file is refused, there is no part
   pub uncaught-part : l ≡ Uncaught → noPart ≡ partFor s h
   uncaught-part q = sym (part-is [] (ap looked q) ∙ go (headerCatcher (listIn s) h) (values-are [] (ap looked q)))
     where
-      go : (k : Caught) → [] ≡ caughtValues k → recordPart k ≡ noPart
+      go : (k : Caught) → [] ≡ caughtValues k → recordPart s k ≡ noPart
       go (By j) v = absurd (let z : _≡_ {A = ℕ} 0 1 = cc in omega arith)
       go catch.Uncaught v = refl
 
   pub refused-part : (x : Refusal) → l ≡ Turned x → noPart ≡ partFor s h
   refused-part x q =
       let r = refused-stays (fileChecks s listLimit) (caughtValues (headerCatcher (listIn s) h)) x (accepted (countIn s ∷ [])) (ap looked (sym q) ∙ e) in
-      sym (ap (λ (b : Bool). cond b (recordPart (headerCatcher (listIn s) h)) noPart) (ap isAccepted (sym r) ∙ refusal-refuses x))
+      sym (ap (λ (b : Bool). cond b (recordPart s (headerCatcher (listIn s) h)) noPart) (ap isAccepted (sym r) ∙ refusal-refuses x))
 
 -- ---- the part that the code takes, `&file[a..e]`
 
@@ -147,14 +149,12 @@ part-lent : (f : RefT (List ℕ)) (a e : ℕ) (p : Part) → record { start = a;
 part-lent f a e p q = ap (λ (o : ℕ). ((f .ptr .0, o), take (e - a) (drop a (now f)))) (add-comm a (f .ptr .1)) ∙ ap (lentPart f) q
 
 -- record i
-pub record-lent : (f : RefT (List ℕ)) (i : ℕ) → let a = headSize + recordSize * i in
-    _≡_ {A = (ℕ × ℕ) × List ℕ} ((f .ptr .0, a + f .ptr .1), take (a + recordSize - a) (drop a (now f))) (lentPart f (recordPart (By i)))
-record-lent f i =
-    part-lent f (headSize + recordSize * i) (headSize + recordSize * i + recordSize) (recordPart (By i))
-    (ap (λ (n : ℕ). record { start = headSize + recordSize * i; size = n }) (whole (headSize + recordSize * i)))
+pub record-lent : (f : RefT (List ℕ)) (i a n : ℕ) → a ≡ placeIn (now f) i → n ≡ recordSize (versionIn (now f))
+    → _≡_ {A = (ℕ × ℕ) × List ℕ} ((f .ptr .0, a + f .ptr .1), take (a + n - a) (drop a (now f))) (lentPart f (recordPart (now f) (By i)))
+record-lent f i a n e g = part-lent f a (a + n) (recordPart (now f) (By i)) (λ j. record { start = e j; size = (whole a n ∙ g) j })
   where
-    whole : (a : ℕ) → a + recordSize - a ≡ recordSize
-    whole a = omega arith
+    whole : (a n : ℕ) → a + n - a ≡ n
+    whole a n = omega arith
 
 -- nothing
 pub nothing-lent : (f : RefT (List ℕ)) (p : Part) → noPart ≡ p → _≡_ {A = (ℕ × ℕ) × List ℕ} ((f .ptr .0, 0 + f .ptr .1), take (0 - 0) (drop 0 (now f))) (lentPart f p)
@@ -166,8 +166,10 @@ passed-on f x p q e g = e ∙ ap (lentPart f) g
 
 -- ---- the record that is handed back is the entry that catches the header
 
-pub record-reads : (s : List ℕ) (i : ℕ) (d : Entry) → i < countIn s → entryAt (take recordSize (drop (headSize + recordSize * i) s)) 0 ≡ getD (listIn s) i d
+pub record-reads : (s : List ℕ) (i : ℕ) (d : Entry) → i < countIn s → entryAt (versionIn s) (recordIn s i) 0 ≡ getD (listIn s) i d
 record-reads s i d l =
-    let a = headSize + recordSize * i in
-    same-entry (take recordSize (drop a s)) s 0 a (λ j k. getD-take recordSize (drop a s) (0 + j) 0 (omega arith) ∙ getD-drop a s (0 + j) 0 ∙ ap (λ (n : ℕ). getD s (a + n) 0) (zero-add j))
-    ∙ sym (entries-at s headSize (countIn s) i d l)
+    let a = placeIn s i in
+    let size = recordSize (versionIn s) in
+    same-entry (versionIn s) (recordIn s i) s 0 a
+    (λ j k. getD-take size (drop a s) (0 + j) 0 (omega arith) ∙ getD-drop a s (0 + j) 0 ∙ ap (λ (n : ℕ). getD s (a + n) 0) (zero-add j))
+    ∙ sym (first-at s (countIn s) i d l)

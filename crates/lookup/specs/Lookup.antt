@@ -1,7 +1,7 @@
 -- Lookup in a file and in a table (01, "Lookup and comparison").
-use Prim.Native.Nat.{ℕ, _+_, _*_}
+use Prim.Native.Nat.{ℕ, _+_}
 use mathlib.Core.Bool.{cond}
-use mathlib.Core.List.{List, [], _∷_}
+use mathlib.Core.List.{List, [], _∷_, map}
 use lib.ListN.{take, drop}
 use denote.Ref.{RefT, now}
 use Rattle.policy.specs.declared.header.Header.{Header}
@@ -10,9 +10,11 @@ use Rattle.policy.specs.declared.entry.Caught.{Caught}
 use Rattle.policy.specs.declared.entry.Caught.the-variants.{By}
 use Rattle.policy.specs.declared.entry.Caught.the-variants as catch
 use Rattle.policy.specs.Header.{among, headers}
+use Rattle.policy.specs.Entry.{crossed}
 use Rattle.policy.specs.Policy.{catcher}
 use Rattle.policy.specs.Refusals.{Answer, refusal, accepted, isAccepted, firstOf}
-use Rattle.wire.specs.Format.{headSize, recordSize, listLimit, listIn}
+use Rattle.wire.specs.Format.{recordSize, listLimit, versionIn, placeIn, listIn}
+use Rattle.wire.specs.Lists.{emptyEntry}
 use Rattle.wire.specs.Checks.{fileChecks, checksOf}
 use Rattle.lookup.specs.declared.file.Looked.{Looked}
 use Rattle.lookup.specs.declared.file.Looked.the-variants.{Entry, Uncaught, Refused}
@@ -40,9 +42,13 @@ lookupOf s h = firstOf (fileChecks s listLimit) (accepted (caughtValues (headerC
 abbrev pub caughtAnswer : Caught → Answer
 caughtAnswer c = accepted (caughtValues c)
 
+-- an entry of a table, which nobody has checked: a crossed one counts as one that matches nothing
+abbrev pub counted : entry.Entry → entry.Entry
+counted e = cond (crossed e) emptyEntry e
+
 -- lookup in a table: Definition 3 over its entries
 abbrev pub tableLookupOf : List entry.Entry → Header → Answer
-tableLookupOf p h = caughtAnswer (headerCatcher p h)
+tableLookupOf p h = caughtAnswer (headerCatcher (map counted p) h)
 
 -- a part of a slice: where it starts, and how many bytes it has
 pub record Part : Type 0 where
@@ -53,14 +59,14 @@ pub record Part : Type 0 where
 abbrev pub noPart : Part
 noPart = record { start = 0; size = 0 }
 
--- the catching record's part of a file
-abbrev pub recordPart : Caught → Part
-recordPart (By i) = record { start = headSize + recordSize * i; size = recordSize }
-recordPart catch.Uncaught = noPart
+-- the catching record's part of a file: it has the size of its file's records
+abbrev pub recordPart : List ℕ → Caught → Part
+recordPart s (By i) = record { start = placeIn s i; size = recordSize (versionIn s) }
+recordPart s catch.Uncaught = noPart
 
 -- the part that lookup hands back, also where the file is refused
 abbrev pub partFor : List ℕ → Header → Part
-partFor s h = cond (isAccepted (checksOf s listLimit)) (recordPart (headerCatcher (listIn s) h)) noPart
+partFor s h = cond (isAccepted (checksOf s listLimit)) (recordPart s (headerCatcher (listIn s) h)) noPart
 
 -- a lent slice: its place in memory, and its bytes
 abbrev pub lent : RefT (List ℕ) → (ℕ × ℕ) × List ℕ

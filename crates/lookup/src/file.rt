@@ -5,14 +5,14 @@ use policy::header::Header;
 use policy::refusal::Refusal;
 use wire::check::Checked;
 use wire::check::check_file;
-use wire::format::HEAD_SIZE;
 use wire::format::LIST_LIMIT;
-use wire::format::RECORD_SIZE;
+use wire::format::record_size;
+use wire::record::record_place;
 ghost use mathlib.Core.Path.{_≡_};
-ghost use Prim.Native.Nat.{_+_, _*_, _≤_};
+ghost use Prim.Native.Nat.{_+_, _≤_};
 ghost use lib.ListN.{length};
 ghost use Rattle.policy.specs.declared.entry.Caught.the-variants.{By};
-ghost use Rattle.wire.specs.Format.{headSize, recordSize};
+ghost use Rattle.wire.specs.Format.{placeIn};
 ghost use Rattle.lookup.specs.Lookup.{looked, lookupOf, recordPart, partFor, lent, lentPart};
 
 pub enum Looked {
@@ -27,7 +27,7 @@ pub fn lookup_number(file: &[u8], h: Header) -> Looked
     ensures { λ r. ⌜ looked r ≡ lookupOf (now (file .entry)) h ⌝ }
 {
     match check_file(file, LIST_LIMIT) {
-        Checked::Good(n) => match first_header_match(file, HEAD_SIZE, n, h) {
+        Checked::Good(n) => match first_header_match(file, n, h) {
             Caught::By(i) => Looked::Entry(i),
             Caught::Uncaught => Looked::Uncaught,
         },
@@ -37,11 +37,11 @@ pub fn lookup_number(file: &[u8], h: Header) -> Looked
 
 // Record i of a file, as that part of the lent bytes.
 fn record_of(file: &[u8], i: usize) -> &[u8]
-    requires { ⌜ headSize + recordSize * i + recordSize ≤ length (now file) ⌝ }
-    ensures { λ r. ⌜ lent r ≡ lentPart (file .entry) (recordPart (By i)) ⌝ }
+    requires { ⌜ placeIn (now file) (i + 1) ≤ length (now file) ⌝ }
+    ensures { λ r. ⌜ lent r ≡ lentPart (file .entry) (recordPart (now (file .entry)) (By i)) ⌝ }
 {
-    let start = HEAD_SIZE + RECORD_SIZE * i;
-    let end = start + RECORD_SIZE;
+    let start = record_place(file, i);
+    let end = start + record_size(file[2]);
     &file[start..end]
 }
 

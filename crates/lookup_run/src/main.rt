@@ -95,19 +95,38 @@ fn look_up(file: &[u8], h: Header) {
 }
 
 // The same for a file in hexadecimal digits.
-fn show(text: &[u8], local: u32, remote: u32, local_port: u16, remote_port: u16, protocol: u8) {
+fn show_header(text: &[u8], h: Header) {
     let bytes = bytes_of(text);
     let n = text.len() / 2;
     if n <= 64 {
-        let h = Header {
-            local,
-            remote,
-            local_port,
-            remote_port,
-            protocol,
-        };
         look_up(&bytes[0..n], h);
     }
+}
+
+// An inbound header.
+fn show(text: &[u8], local: u32, remote: u32, local_port: u16, remote_port: u16, protocol: u8) {
+    let h = Header {
+        local,
+        remote,
+        local_port,
+        remote_port,
+        protocol,
+        direction: 0,
+    };
+    show_header(text, h);
+}
+
+// The header of zeros with a direction.
+fn show_direction(text: &[u8], direction: u8) {
+    let h = Header {
+        local: 0,
+        remote: 0,
+        local_port: 0,
+        remote_port: 0,
+        protocol: 0,
+        direction,
+    };
+    show_header(text, h);
 }
 
 fn examples() {
@@ -129,6 +148,21 @@ fn examples() {
     show(p5_good, 0, 0, 0, 0, 4);
     show(p5_good, 0, 0, 0, 0, 5);
     show(p5_good, 0, 0, 0, 0, 6);
+}
+
+// A file of version 1 covers both directions; one of version 2 here the outbound one, and its record has 30 bytes; with a direction of 0 to 2 it is crossed.
+// 2 is no direction.
+fn directions() {
+    let both = b"001f01000100000000ffffffff00000000ffffffff0000ffff0000ffff00ff0003";
+    show_direction(both, 0);
+    show_direction(both, 1);
+    show_direction(both, 2);
+    let outbound = b"002102000100000000ffffffff00000000ffffffff0000ffff0000ffff00ff01010002";
+    show_direction(outbound, 0);
+    show_direction(outbound, 1);
+    show_direction(outbound, 2);
+    let beyond = b"002102000100000000ffffffff00000000ffffffff0000ffff0000ffff00ff00020002";
+    show_direction(beyond, 1);
 }
 
 // P2 with its second entry crossed, asked for a header and for a combination that is none; nothing; 4 bytes; a byte too few and too many; another version; counts 0, 2 and 257.
@@ -168,7 +202,7 @@ fn damaged() {
         0,
     );
     show(
-        b"001f02000100000000ffffffff00000000ffffffff0000ffff0000ffff00ff0003",
+        b"001f03000100000000ffffffff00000000ffffffff0000ffff0000ffff00ff0003",
         0,
         0,
         0,
@@ -196,5 +230,6 @@ fn damaged() {
 
 fn main() {
     examples();
+    directions();
     damaged();
 }

@@ -14,7 +14,7 @@ use Rattle.policy.specs.Entry.{selector}
 use Rattle.policy.specs.Refusals.{Answer, refusal, numbers}
 use Rattle.policy.specs.Sides.{boxOf}
 use Rattle.policy.proofs.Refusals.{refusal-refuses}
-use Rattle.wire.specs.Format.{recordSize, entryAt, headerPut}
+use Rattle.wire.specs.Format.{mergedVersion, recordSize, entryAt, headerPut}
 use Rattle.region.specs.declared.search.Want.{Want}
 use Rattle.region.specs.declared.search.Want.the-variants as want
 use Rattle.region.specs.declared.search.Searched.{Searched}
@@ -44,17 +44,17 @@ pub wants-other : (w v : ℕ) → (w ≡ 0 → ⊥) → (w ≡ 1 → ⊥) → wa
 wants-other w v n m = sym (ap₂ (λ (t u : Bool). cond t want.Uncaught (cond u (want.CaughtBy v) (want.Differs v))) (ne-eqb w 0 n) (ne-eqb w 1 m))
 
 module _ (file entry buffer : List ℕ) (w v : ℕ) where
-  pub no-record : length entry < recordSize → _≡_ {A = Handed} (512, buffer) (measuredSearch file entry w v buffer)
+  pub no-record : (k : ℕ) → k ≡ recordSize mergedVersion → length entry < k → _≡_ {A = Handed} (512, buffer) (measuredSearch file entry w v buffer)
   unfolding measuredSearch
-  no-record l = sym (ap (λ (t : Bool). cond t (512, buffer) (searchResult (searchOf file (selector (entryAt entry 0)) (wanted w v)) buffer)) (lt-ltb (length entry) recordSize l))
+  no-record k e l = sym (ap (λ (t : Bool). cond t (512, buffer) (searchResult (searchOf file (selector (entryAt mergedVersion entry 0)) (wanted w v)) buffer)) (lt-ltb (length entry) (recordSize mergedVersion) (rw e at l)))
 
-  module _ (b : List ℕ) (e : Entry) (x : Want) (s : Searched) (long : recordSize ≤ length entry) (read : e ≡ entryAt entry 0) (sides : boxOf b 0 ≡ selector e) (is : x ≡ wanted w v)
+  module _ (b : List ℕ) (e : Entry) (x : Want) (s : Searched) (k : ℕ) (size : k ≡ recordSize mergedVersion) (long : k ≤ length entry) (read : e ≡ entryAt mergedVersion entry 0) (sides : boxOf b 0 ≡ selector e) (is : x ≡ wanted w v)
       (says : searched s ≡ searchOf file (boxOf b 0) x) where
     answers : _≡_ {A = Handed} (searchResult (searched s) buffer) (measuredSearch file entry w v buffer)
     unfolding measuredSearch
     answers =
         ap (λ (a : Answer). searchResult a buffer) (says ∙ ap₂ (searchOf file) (sides ∙ ap selector read) is)
-        ∙ sym (ap (λ (t : Bool). cond t (512, buffer) (searchResult (searchOf file (selector (entryAt entry 0)) (wanted w v)) buffer)) (le-ltb (length entry) recordSize long))
+        ∙ sym (ap (λ (t : Bool). cond t (512, buffer) (searchResult (searchOf file (selector (entryAt mergedVersion entry 0)) (wanted w v)) buffer)) (le-ltb (length entry) (recordSize mergedVersion) (rw size at long)))
 
     pub finds-none : s ≡ find.Nothing → _≡_ {A = Handed} (0, buffer) (measuredSearch file entry w v buffer)
     finds-none q = ap (λ (s : Searched). searchResult (searched s) buffer) (sym q) ∙ answers

@@ -15,8 +15,9 @@ pub extern "C" fn measured_part(
     local_port: u16,
     remote_port: u16,
     protocol: u8,
+    direction: u8,
 ) -> usize
-    ensures { λ r. ⌜ r ≡ length (lentPart (file .entry) (partFor (now (file .entry)) (header (local, (remote, («local_port», («remote_port», (protocol, tt))))))) .1) ⌝ }
+    ensures { λ r. ⌜ r ≡ length (lentPart (file .entry) (partFor (now (file .entry)) (header (local, (remote, («local_port», («remote_port», (protocol, (direction, tt)))))))) .1) ⌝ }
 {
     let h = Header {
         local,
@@ -24,6 +25,7 @@ pub extern "C" fn measured_part(
         local_port,
         remote_port,
         protocol,
+        direction,
     };
     lookup_record(file, h).len()
 }

@@ -4,7 +4,8 @@ use policy::refusal::number_of;
 use region::search::Searched;
 use region::search::Want;
 use region::search::search_file;
-use wire::format::RECORD_SIZE;
+use wire::format::MERGED_VERSION;
+use wire::format::record_size;
 use wire::header::put_header;
 use wire::record::read_entry;
 ghost use mathlib.Core.Path.{_≡_};
@@ -25,7 +26,7 @@ fn want_of(want: u32, value: u16) -> Want
     Want::Differs(value)
 }
 
-// Searches the selector of a record: 0 for none, 1 with the header in the buffer, or 256 plus the number of the refusal. 512 if there is no
+// Searches the selector of a record of version 2: 0 for none, 1 with the header in the buffer, or 256 plus the number of the refusal. 512 if there is no
 // record.
 #[no_mangle]
 pub extern "C" fn measured_search(
@@ -37,10 +38,10 @@ pub extern "C" fn measured_search(
 ) -> u32
     ensures { λ r. ⌜ _≡_ {A = ℕ × List ℕ} (r, now (buffer .exit)) (measuredSearch (now (file .entry)) (now («record» .entry)) want value (now (buffer .entry))) ⌝ }
 {
-    if record.len() < RECORD_SIZE {
+    if record.len() < record_size(MERGED_VERSION) {
         return 512;
     }
-    let b = sides_of(read_entry(record, 0));
+    let b = sides_of(read_entry(record, 0, MERGED_VERSION));
     match search_file(file, &b, want_of(want, value)) {
         Searched::Nothing => 0,
         Searched::At(h) => {

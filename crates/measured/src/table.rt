@@ -8,9 +8,16 @@ ghost use Rattle.policy.specs.Header.{header};
 ghost use Rattle.lookup.specs.Lookup.{caughtAnswer, tableLookupOf};
 ghost use Rattle.measured.specs.steps.Numbers.{caughtNumber};
 
-// The header of five numbers.
-fn header_of(local: u32, remote: u32, local_port: u16, remote_port: u16, protocol: u8) -> Header
-    ensures { λ r. ⌜ r ≡ header (local, (remote, («local_port», («remote_port», (protocol, tt))))) ⌝ }
+// The header of six numbers.
+fn header_of(
+    local: u32,
+    remote: u32,
+    local_port: u16,
+    remote_port: u16,
+    protocol: u8,
+    direction: u8,
+) -> Header
+    ensures { λ r. ⌜ r ≡ header (local, (remote, («local_port», («remote_port», (protocol, (direction, tt)))))) ⌝ }
 {
     Header {
         local,
@@ -18,6 +25,7 @@ fn header_of(local: u32, remote: u32, local_port: u16, remote_port: u16, protoco
         local_port,
         remote_port,
         protocol,
+        direction,
     }
 }
 
@@ -40,11 +48,12 @@ pub extern "C" fn measured_table(
     local_port: u16,
     remote_port: u16,
     protocol: u8,
+    direction: u8,
 ) -> usize
-    ensures { λ r. ⌜ r ≡ caughtNumber (tableLookupOf (now (table .entry)) (header (local, (remote, («local_port», («remote_port», (protocol, tt))))))) ⌝ }
+    ensures { λ r. ⌜ r ≡ caughtNumber (tableLookupOf (now (table .entry)) (header (local, (remote, («local_port», («remote_port», (protocol, (direction, tt)))))))) ⌝ }
 {
     number_of(lookup_table(
         table,
-        header_of(local, remote, local_port, remote_port, protocol),
+        header_of(local, remote, local_port, remote_port, protocol, direction),
     ))
 }

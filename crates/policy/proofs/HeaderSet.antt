@@ -74,24 +74,28 @@ same-is true b e = sym e
 same-is false b e = sym (not-true e)
 
 module _ (h : Header) where
-  -- the addresses fit, and each port is one that there is, or 0
+  -- the addresses and the direction fit, and each port is one that there is, or 0
   abbrev Fitting : Bool → Bool → Bool
   Fitting l r =
       within (everything .0) (h .local)
       && (within (everything .1 .0) (h .remote)
-      && (within (portValues l) (h .«local_port») && within (portValues r) (h .«remote_port»)))
+      && (within (everything .1 .1 .1 .1 .1 .0) (h .direction)
+      && (within (portValues l) (h .«local_port») && within (portValues r) (h .«remote_port»))))
 
   span-is : (s : Span) → lies (spanBox s) h ≡ (Fitting (s .local) (s .remote) && within (s .protocols) (h .protocol))
   span-is s =
       last (within (everything .0) (h .local)) (within (everything .1 .0) (h .remote)) (within (portValues (s .local)) (h .«local_port»))
-      (within (portValues (s .remote)) (h .«remote_port»)) (within (s .protocols) (h .protocol))
+      (within (portValues (s .remote)) (h .«remote_port»)) (within (s .protocols) (h .protocol)) (within (everything .1 .1 .1 .1 .1 .0) (h .direction))
     where
-      last : (a b c d t : Bool) → (a && (b && (c && (d && (t && true))))) ≡ ((a && (b && (c && d))) && t)
-      last false b c d t = refl
-      last true false c d t = refl
-      last true true false d t = refl
-      last true true true false t = refl
-      last true true true true t = and-true t
+      last : (a b c d t u : Bool) → (a && (b && (c && (d && (t && (u && true)))))) ≡ ((a && (b && (u && (c && d)))) && t)
+      last false b c d t u = refl
+      last true false c d t u = refl
+      last true true false d t false = refl
+      last true true false d t true = refl
+      last true true true false t false = refl
+      last true true true false t true = refl
+      last true true true true t false = and-false t
+      last true true true true t true = and-true t
 
   module _ (l r : Bool) where
     span-agrees : (s : Span) → (not (within (s .protocols) (h .protocol)) || (same (s .local) l && same (s .remote) r)) ≡ true
@@ -126,13 +130,17 @@ module _ (h : Header) where
   -- so, of numbers that fit, the sentence is left
   fitting-is : (l r : Bool) → lies everything h ≡ true → Fitting l r ≡ ((l || eqb (h .«local_port») 0) && (r || eqb (h .«remote_port») 0))
   fitting-is l r i =
-      let a = in-first 4 everything (fields h) i in
-      let i1 = in-rest 4 everything (fields h) i in
-      let b = in-first 3 (everything .1) (fields h .1) i1 in
-      let i2 = in-rest 3 (everything .1) (fields h .1) i1 in
-      let c = in-first 2 (everything .1 .1) (fields h .1 .1) i2 in
-      let d = in-first 1 (everything .1 .1 .1) (fields h .1 .1 .1) (in-rest 2 (everything .1 .1) (fields h .1 .1) i2) in
-      ap₂ (λ (x y : Bool). x && (y && (within (portValues l) (h .«local_port») && within (portValues r) (h .«remote_port»)))) a b
+      let a = in-first 5 everything (fields h) i in
+      let i1 = in-rest 5 everything (fields h) i in
+      let b = in-first 4 (everything .1) (fields h .1) i1 in
+      let i2 = in-rest 4 (everything .1) (fields h .1) i1 in
+      let c = in-first 3 (everything .1 .1) (fields h .1 .1) i2 in
+      let i3 = in-rest 3 (everything .1 .1) (fields h .1 .1) i2 in
+      let d = in-first 2 (everything .1 .1 .1) (fields h .1 .1 .1) i3 in
+      let i4 = in-rest 2 (everything .1 .1 .1) (fields h .1 .1 .1) i3 in
+      let e = in-first 0 (everything .1 .1 .1 .1 .1) (fields h .1 .1 .1 .1 .1) (in-rest 1 (everything .1 .1 .1 .1) (fields h .1 .1 .1 .1) i4) in
+      ap₂ (λ (x y : Bool). x && (y && (within (everything .1 .1 .1 .1 .1 .0) (h .direction) && (within (portValues l) (h .«local_port») && within (portValues r) (h .«remote_port»))))) a b
+      ∙ ap (_&& (within (portValues l) (h .«local_port») && within (portValues r) (h .«remote_port»))) e
       ∙ ap₂ _&&_ (port-is l (h .«local_port») c) (port-is r (h .«remote_port») d)
 
 -- ---- the headers are those of the sentence, among what fits
@@ -160,18 +168,33 @@ pub headers-fit : (h : Header) → among headers h ≡ (fits arity sizes (fields
 unfolding headers
 headers-fit h = headers-of ports refl refl h
 
--- so a header is what lies in 01's ALL and has its ports from its protocol
+-- so a header is what lies in ALL, its direction 0 or 1, and has its ports from its protocol
 pub headers-are : (h : Header) → among headers h ≡ (lies everything h && isHeader ports h)
 headers-are h =
     headers-fit h
     ∙ ap (_&& isHeader ports h)
     (same-truth (fits arity sizes (fields h)) (lies everything h) (in-full arity widths (fields h)) (inside-fits arity sizes everything (fields h) refl))
 
--- ---- the code's test of a header in memory: its numbers fit
+-- ---- the code's test of a header in memory: its numbers fit, if its direction does
 
-module _ (h : Header) (a : h .local < 4294967296) (b : h .remote < 4294967296) (c : h .«local_port» < 65536) (d : h .«remote_port» < 65536) (e : h .protocol < 256) where
+-- a direction above 1
+pub no-direction : (h : Header) → 1 < h .direction → false ≡ among headers h
+no-direction h l = sym (is-false (among headers h) λ a. off (h .direction) (fits-at arity 5 sizes (fields h) (omega arith) (among-fits headers h a)) l)
+  where
+    off : (n : ℕ) → n < 2 → 1 < n → ⊥
+    off n a b = omega arith
+
+module _ (h : Header) (a : h .local < 4294967296) (b : h .remote < 4294967296) (c : h .«local_port» < 65536) (d : h .«remote_port» < 65536) (e : h .protocol < 256) (f : h .direction ≤ 1) where
   fit : fits arity sizes (fields h) ≡ true
-  fit = rw (lt-ltb (h .local) 4294967296 a, lt-ltb (h .remote) 4294967296 b, lt-ltb (h .«local_port») 65536 c, lt-ltb (h .«remote_port») 65536 d, lt-ltb (h .protocol) 256 e)
+  fit =
+      rw (
+        lt-ltb (h .local) 4294967296 a,
+        lt-ltb (h .remote) 4294967296 b,
+        lt-ltb (h .«local_port») 65536 c,
+        lt-ltb (h .«remote_port») 65536 d,
+        lt-ltb (h .protocol) 256 e,
+        lt-ltb (h .direction) 2 (omega arith),
+      )
 
   header-is : (l r : Bool) → eqb (h .«local_port») 0 ≡ l → eqb (h .«remote_port») 0 ≡ r → among headers h ≡ ((oneOf withPorts (h .protocol) || l) && (oneOf withPorts (h .protocol) || r))
   header-is l r p q =

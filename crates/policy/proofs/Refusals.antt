@@ -97,7 +97,7 @@ refusalOf a =
     value i = getD (a .values) i 0
 
     named : Header
-    named = header (value 0, (value 1, (value 2, (value 3, (value 4, tt)))))
+    named = header (value 0, (value 1, (value 2, (value 3, (value 4, (value 5, tt))))))
 
 again : (r : Refusal) → refusalOf (refusal r) ≡ r
 again Missized = refl

@@ -10,18 +10,18 @@ use Rattle.policy.specs.Ports.{Ports, ports, oneOf}
 
 -- how many numbers a header has
 abbrev pub arity : ℕ
-arity = 5
+arity = 6
 
--- the widths of a header's numbers in bits, in the sequence that decides the order
+-- the widths of a header's numbers in bits, in the sequence that decides the order; the direction, 0 in and 1 out, is last (02, Wish 4)
 abbrev pub widths : Row ℕ arity
-widths = (32, (32, (16, (16, (8, tt)))))
+widths = (32, (32, (16, (16, (8, (1, tt))))))
 
 -- a header's numbers in that sequence
 abbrev pub fields : Header → Row ℕ arity
-fields h = (h .local, (h .remote, (h .«local_port», (h .«remote_port», (h .protocol, tt)))))
+fields h = (h .local, (h .remote, (h .«local_port», (h .«remote_port», (h .protocol, (h .direction, tt))))))
 
 abbrev pub header : Row ℕ arity → Header
-header x = record { local = x .0; remote = x .1 .0; «local_port» = x .1 .1 .0; «remote_port» = x .1 .1 .1 .0; protocol = x .1 .1 .1 .1 .0 }
+header x = record { local = x .0; remote = x .1 .0; «local_port» = x .1 .1 .0; «remote_port» = x .1 .1 .1 .0; protocol = x .1 .1 .1 .1 .0; direction = x .1 .1 .1 .1 .1 .0 }
 
 -- the order of headers: the first number that differs decides
 abbrev pub before : Header → Header → Bool
@@ -80,7 +80,7 @@ abbrev pub portValues : Bool → Range
 portValues b = cond b (everything .1 .1 .0) (range 0 0)
 
 abbrev pub spanBox : Span → Box
-spanBox s = (everything .0, (everything .1 .0, (portValues (s .local), (portValues (s .remote), (s .protocols, tt)))))
+spanBox s = (everything .0, (everything .1 .0, (portValues (s .local), (portValues (s .remote), (s .protocols, (everything .1 .1 .1 .1 .1 .0, tt))))))
 
 -- the spans of the protocols from a number on, in which those listed have ports
 abbrev pub spansFrom : Ports → ℕ → List ℕ → List Span

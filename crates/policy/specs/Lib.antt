@@ -2,6 +2,7 @@ pub mod Row
 pub mod Box
 pub mod Ports
 pub mod Header
+pub mod Direction
 pub mod Found
 pub mod Least
 pub mod Actions

@@ -22,7 +22,7 @@ abbrev pub oneOf : List ℕ → ℕ → Bool
 oneOf [] q = false
 oneOf (p ∷ ps) q = eqb q p || oneOf ps q
 
--- a header: each of its ports is one that its protocol has, or is 0
+-- a header, among combinations that fit their widths: each of its ports is one that its protocol has, or is 0
 abbrev pub isHeader : Ports → Header → Bool
 isHeader ps h =
     (oneOf (ps .local) (h .protocol) || eqb (h .«local_port») 0)

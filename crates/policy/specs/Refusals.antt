@@ -15,9 +15,9 @@ pub record Answer : Type 0 where
   pub number : ℕ
   pub values : List ℕ
 
--- a header as the values of an answer: its five numbers
+-- a header as the values of an answer: its six numbers
 abbrev pub numbers : Header → List ℕ
-numbers h = h .local ∷ h .remote ∷ h .«local_port» ∷ h .«remote_port» ∷ h .protocol ∷ []
+numbers h = h .local ∷ h .remote ∷ h .«local_port» ∷ h .«remote_port» ∷ h .protocol ∷ h .direction ∷ []
 
 -- the table: each refusal's number and values; its word is the name
 abbrev pub refusal : Refusal → Answer

@@ -3,3 +3,4 @@ pub mod Boxes
 pub mod Findings
 pub mod Rows
 pub mod Narrowed
+pub mod Directions

@@ -1,14 +1,15 @@
-// Entries: the eleven numbers of a record, at the format's widths.
+// Entries: the thirteen numbers of a record, at the format's widths.
+use crate::direction::is_crossed_box;
+use crate::direction::is_direction_crossed;
 use crate::header::Header;
 use crate::header::numbers_of;
 use crate::ports::is_header;
 use crate::sides::ROW;
 use crate::sides::SIDES;
 use crate::sides::is_inside;
-use crate::sides::is_proper;
 use crate::sides::row_sides;
 ghost use mathlib.Core.Path.{_≡_};
-ghost use mathlib.Core.Bool.{_&&_};
+ghost use mathlib.Core.Bool.{not, _&&_};
 ghost use Rattle.policy.specs.Entry.{selector, matches, crossed};
 ghost use Rattle.policy.specs.Header.{among, headers};
 ghost use Rattle.policy.specs.Sides.{boxOf};
@@ -27,6 +28,8 @@ pub struct Entry {
     pub remote_port_high: u16,
     pub protocol_low: u8,
     pub protocol_high: u8,
+    pub direction_low: u8,
+    pub direction_high: u8,
     pub actions: u16,
 }
 
@@ -51,6 +54,8 @@ pub fn row_of(e: Entry) -> [u32; ROW]
         e.remote_port_high as u32,
         e.protocol_low as u32,
         e.protocol_high as u32,
+        e.direction_low as u32,
+        e.direction_high as u32,
         e.actions as u32,
     ]
 }
@@ -72,20 +77,24 @@ pub fn matches_header(e: Entry, h: Header) -> bool
     is_inside(&sides, &numbers)
 }
 
-// Whether h is a header that e matches. In a loop over entries the compiler asks the first once.
+// Whether h is a header that e matches, and e is not crossed: one that matches can be crossed by its direction alone. In a loop over entries the compiler asks the
+// first once.
 pub fn catches_header(e: Entry, h: Header) -> bool
-    ensures { λ r. ⌜ r ≡ (among headers h && matches e h) ⌝ }
+    ensures { λ r. ⌜ r ≡ (among headers h && (not (crossed e) && matches e h)) ⌝ }
 {
     if !is_header(h) {
         return false;
     }
-    matches_header(e, h)
+    if !matches_header(e, h) {
+        return false;
+    }
+    !is_direction_crossed(e.direction_low, e.direction_high)
 }
 
-// Whether a range of e has its low above its high.
+// Whether e is crossed.
 pub fn is_crossed(e: Entry) -> bool
     ensures { λ r. ⌜ r ≡ crossed e ⌝ }
 {
     let sides = sides_of(e);
-    !is_proper(&sides)
+    is_crossed_box(&sides)
 }

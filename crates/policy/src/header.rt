@@ -10,13 +10,15 @@ ghost use Rattle.policy.specs.Header.{arity, sizes, header, before, ever
 ghost use Rattle.policy.specs.Refusals.{numbers};
 ghost use Rattle.policy.specs.Sides.{boxOf};
 
-// Five numbers. Not every combination of them is a header: ports.rt.
+// Six numbers. Not every combination of them is a header: ports.rt.
 pub struct Header {
     pub local: u32,
     pub remote: u32,
     pub local_port: u16,
     pub remote_port: u16,
     pub protocol: u8,
+    // 0 in, 1 out.
+    pub direction: u8,
 }
 
 // A header that was looked for, or none.
@@ -35,6 +37,7 @@ pub fn numbers_of(h: Header) -> [u32; FIELDS]
         h.local_port as u32,
         h.remote_port as u32,
         h.protocol as u32,
+        h.direction as u32,
     ]
 }
 
@@ -49,6 +52,7 @@ pub fn low_corner(b: &[u32; SIDES]) -> Header
         local_port: low(b, 2) as u16,
         remote_port: low(b, 3) as u16,
         protocol: low(b, 4) as u8,
+        direction: low(b, 5) as u8,
     }
 }
 
@@ -76,5 +80,7 @@ pub fn whole() -> [u32; SIDES]
         0xffff,
         0,
         0xff,
+        0,
+        1,
     ]
 }

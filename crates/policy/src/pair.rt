@@ -47,6 +47,8 @@ pub fn both_entries(d: Entry, e: Entry) -> Entry
         remote_port_high: lesser2(d.remote_port_high, e.remote_port_high),
         protocol_low: greater1(d.protocol_low, e.protocol_low),
         protocol_high: lesser1(d.protocol_high, e.protocol_high),
+        direction_low: greater1(d.direction_low, e.direction_low),
+        direction_high: lesser1(d.direction_high, e.direction_high),
         actions: shared_actions(d.actions, e.actions),
     }
 }

@@ -57,10 +57,14 @@ fn has_ports(q: u32) -> bool
     r.first <= r.last
 }
 
-// Whether h is a header: both its ports are 0, or its protocol has ports. What is looked up is mostly a header, so that the second is mostly true.
+// Whether h is a header: its direction is 0 or 1, and both its ports are 0 or its protocol has ports. What is looked up is mostly a header, so that the protocol
+// mostly has ports.
 pub fn is_header(h: Header) -> bool
     ensures { λ t. ⌜ t ≡ among headers h ⌝ }
 {
+    if 1 < h.direction {
+        return false;
+    }
     if h.local_port != 0 {
         return has_ports(h.protocol as u32);
     }

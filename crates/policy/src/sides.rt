@@ -12,7 +12,7 @@ ghost use Rattle.policy.specs.Sides.{field, boxOf};
 ghost use Rattle.policy.specs.steps.Rows.{sides, rowSize, rowAt, numbersIn};
 
 // How many fields a header has; the sides of a box, a low and a high for each; and the numbers of a row, which has an action set too.
-pub const FIELDS: usize = 5;
+pub const FIELDS: usize = 6;
 
 pub const SIDES: usize = 2 * FIELDS;
 

@@ -20,9 +20,11 @@ use Rattle.policy.specs.Policy.{missed}
 use Rattle.policy.specs.Sides.{boxOf}
 use Rattle.policy.specs.steps.Rows.{rowSize, rowAt, rowsIn, numbersOf}
 use Rattle.policy.proofs.Slices.{length-rows, rows-at}
-use Rattle.wire.specs.Format.{recordSize, filedLimit, listLimit, entryAt, entriesFrom}
+use Rattle.wire.specs.Format.{headSize, filedLimit, listLimit, placeIn, recordsIn, entriesFrom}
+use Rattle.wire.specs.steps.Numbered.{entryIn}
 use Rattle.wire.specs.Lists.{emptyEntry}
-use Rattle.wire.proofs.Entries.{entries-at}
+use Rattle.wire.proofs.Entries.{first-at}
+use Rattle.wire.proofs.Sizes.{counted-there, entry-within}
 use Rattle.wire.proofs.Lists.{zeroEntry}
 use Rattle.reconcile.specs.Rules.{noHeader, cross, Working, list, crowded, next}
 use Rattle.reconcile.specs.steps.Pass.{offeredAll, Apart, RowsOf}
@@ -166,7 +168,7 @@ module _ (ds es : List Entry) (t rows : List ℕ) (n i : ℕ) where
           (crossed-early ds (rowsIn t) i (k + 1) count m f
           (ap (offeredAll headers (list [])) up ∙ keeps-full rows es n (pairs ds (rowsIn t) i k) pair met u c v its-box z w))
 
-      pub turn-kept : (s r : List ℕ) (f e : Entry) → RowsOf s t → f ≡ entryAt s (recordSize * k) → e ≡ both (getD ds i zeroEntry) f → not u ≡ false → n < listLimit
+      pub turn-kept : (s r : List ℕ) (f e : Entry) → RowsOf s t → f ≡ entryIn s k → e ≡ both (getD ds i zeroEntry) f → not u ≡ false → n < listLimit
           → r ≡ paste rows (rowSize * n) (numbersOf e) rowSize → Keeps r (set es n e) (n + 1) (pairs ds (rowsIn t) i (k + 1))
       turn-kept s r f e o g d z w h =
           subst (Keeps r (set es n e) (n + 1)) (ap (λ (x : Entry). pairs ds (rowsIn t) i k ++ x ∷ []) same ∙ sym up)
@@ -175,11 +177,14 @@ module _ (ds es : List Entry) (t rows : List ℕ) (n i : ℕ) where
           same : e ≡ pair
           same =
               d ∙ ap (both (getD ds i zeroEntry))
-              (g ∙ ap (entryAt s) (sym (zero-add (recordSize * k))) ∙ sym (ap (λ (p : List Entry). getD p k emptyEntry) (o .same) ∙ entries-at s 0 (length t / rowSize) k emptyEntry l))
+              (g ∙ sym (ap (λ (p : List Entry). getD p k emptyEntry) (o .same) ∙ first-at s (length t / rowSize) k emptyEntry l))
 
--- ---- the rows are those of a slice of records
+-- ---- the rows are those of a file
 
-module _ (s t : List ℕ) (n : ℕ) (e : n ≡ min (length s / recordSize) filedLimit) (z : length t ≡ rowSize * filedLimit) (d : rowsIn (take (rowSize * n) t) ≡ entriesFrom s 0 n) where
+pub their-entry : (s t : List ℕ) (k : ℕ) → RowsOf s t → k < length t / rowSize → placeIn s (k + 1) ≤ length s
+their-entry s t k o l = entry-within s k (length t / rowSize) l (o .there)
+
+module _ (s t : List ℕ) (n : ℕ) (e : n ≡ min (recordsIn s) filedLimit) (head : headSize ≤ length s) (z : length t ≡ rowSize * filedLimit) (d : rowsIn (take (rowSize * n) t) ≡ entriesFrom s 0 n) where
   all : (n : ℕ) → n - 0 ≡ n
   all n = omega arith
 
@@ -192,7 +197,7 @@ module _ (s t : List ℕ) (n : ℕ) (e : n ≡ min (length s / recordSize) filed
   pub decoded-rows : RowsOf s (take (rowSize * n - 0) t)
   decoded-rows = record {
     same = ap (λ (m : ℕ). rowsIn (take m t)) (all (rowSize * n)) ∙ d ∙ ap (entriesFrom s 0) (sym how-many);
-    there = omega (arith, how-many);
+    there = let w : placeIn s (length (take (rowSize * n - 0) t) / rowSize) ≡ placeIn s n = ap (placeIn s) how-many in omega (arith, counted-there s n head (omega arith));
     few = omega (arith, how-many);
   }
 

@@ -1,8 +1,7 @@
 -- The working list after the first party and after each next one.
 -- Assumes nothing.
-use Prim.Native.Nat.{ℕ, _+_, _-_, _*_, _<_, _≤_}
+use Prim.Native.Nat.{ℕ, _+_, _-_, _*_, _<_, _≤_, min}
 use native.Mathlib.Omega.{arith}
-use native.Mathlib.Nat.{zero-add}
 use native.Mathlib.Numerals.{add-one}
 use mathlib.Core.Path.{_≡_, refl, sym, _∙_, ap, ap₂, subst}
 use mathlib.Core.Bool.{Bool, true, false, not, cond, _&&_}
@@ -15,9 +14,11 @@ use Rattle.policy.specs.Header.{Box, lies, Headers, headers}
 use Rattle.policy.specs.Entry.{selector}
 use Rattle.policy.specs.Policy.{missed}
 use Rattle.policy.specs.steps.Rows.{rowSize, rowsIn, numbersOf}
-use Rattle.wire.specs.Format.{recordSize, listLimit, entryAt, entriesFrom}
+use Rattle.wire.specs.Format.{filedLimit, listLimit, placeIn, recordsIn, entriesFrom}
+use Rattle.wire.specs.steps.Numbered.{entryIn}
 use Rattle.wire.specs.Lists.{emptyEntry}
-use Rattle.wire.proofs.Entries.{length-entries, entries-at}
+use Rattle.wire.proofs.Sizes.{counted-entry}
+use Rattle.wire.proofs.Entries.{length-entries, first-at}
 use Rattle.reconcile.specs.declared.stage.Stage.{Stage}
 use Rattle.reconcile.specs.Rules.{noHeader, trimmed, Working, list, crowded, limited, next, nextAll, working, conflictOf, settled, finished, mergeOf}
 use Rattle.reconcile.specs.steps.Pass.{offeredAll}
@@ -28,15 +29,19 @@ use Rattle.reconcile.proofs.Merging.{rule3-least}
 
 -- ---- the first list
 
+-- each entry that is read of a file is there
+pub filed-entry : (s : List ℕ) (j total : ℕ) → total ≡ min (recordsIn s) filedLimit → j < total → placeIn s (j + 1) ≤ length s
+filed-entry s j total e l = counted-entry s j (omega arith)
+
 first-more : (q : List Entry) (j : ℕ) → j < length q → take (j + 1) q ≡ take j q ++ getD q j emptyEntry ∷ []
 first-more q j l = ap (λ (k : ℕ). take k q) (add-one j) ∙ take-suc q j emptyEntry l
 
 module _ (s rows : List ℕ) (es : List Entry) (n j m : ℕ) (e : Entry) (b : Box) (t : Bool) (k : Keeps rows es n (take j (entriesFrom s 0 m))) (l : j < m)
-    (g : e ≡ entryAt s (recordSize * j)) (x : b ≡ selector e) (c : t ≡ not (noHeader headers λ h. missed (rowsIn (take (rowSize * n - 0) rows)) h && lies b h)) where
+    (g : e ≡ entryIn s j) (x : b ≡ selector e) (c : t ≡ not (noHeader headers λ h. missed (rowsIn (take (rowSize * n - 0) rows)) h && lies b h)) where
   up : take (j + 1) (entriesFrom s 0 m) ≡ take j (entriesFrom s 0 m) ++ e ∷ []
   up =
       first-more (entriesFrom s 0 m) j (omega (arith, length-entries s 0 m))
-      ∙ ap (λ (d : Entry). take j (entriesFrom s 0 m) ++ d ∷ []) (entries-at s 0 m j emptyEntry l ∙ ap (entryAt s) (zero-add (recordSize * j)) ∙ sym g)
+      ∙ ap (λ (d : Entry). take j (entriesFrom s 0 m) ++ d ∷ []) (first-at s m j emptyEntry l ∙ sym g)
 
   pub first-shadowed : not t ≡ true → Keeps rows es n (take (j + 1) (entriesFrom s 0 m))
   first-shadowed q = subst (Keeps rows es n) (sym up) (keeps-shadowed rows es n (take j (entriesFrom s 0 m)) e k t b c x q)

@@ -1,6 +1,6 @@
 -- The end of a merging or an installing: what it comes to is written.
 -- Assumes nothing.
-use Prim.Native.Nat.{ℕ, _+_, _*_, _<_, _≤_}
+use Prim.Native.Nat.{ℕ, _<_, _≤_}
 use mathlib.Core.Path.{_≡_, refl, sym, _∙_, ap}
 use mathlib.Core.Bool.{Bool, true, false, not, cond}
 use mathlib.Core.List.{List, [], _∷_, map}
@@ -17,7 +17,7 @@ use Rattle.policy.specs.Header.{Headers}
 use Rattle.policy.specs.Ranking.{isRanking}
 use Rattle.policy.specs.Refusals.{Answer, refusal, accepted, refuse, refuseAt, firstOf}
 use Rattle.policy.proofs.Refusals.{refusal-refuses}
-use Rattle.wire.specs.Format.{headSize, recordSize, fileSize, fileOf}
+use Rattle.wire.specs.Format.{mergedVersion, fileSize, fileOf}
 use Rattle.wire.specs.Answers.{ifAccepted}
 use Rattle.wire.specs.Writing.{placed, tooNarrow}
 use Rattle.reconcile.specs.declared.settle.Verdict.{Verdict}
@@ -33,24 +33,26 @@ use Rattle.reconcile.specs.steps.Ending.{ending}
 -- ---- writing
 
 module _ (p : List Entry) (b : List ℕ) (n : ℕ) (z : length p ≡ n) where
-  answer-is : answerOf (merged p) b ≡ firstOf (refuse (ltb (length b) (fileSize n)) (Narrow (fileSize n)) ∷ []) (accepted (n ∷ fileSize n ∷ []))
-  answer-is = ap (λ (k : ℕ). firstOf (refuse (ltb (length b) (fileSize k)) (Narrow (fileSize k)) ∷ []) (accepted (k ∷ fileSize k ∷ []))) z
+  answer-is : answerOf (merged p) b ≡ firstOf (refuse (ltb (length b) (fileSize mergedVersion n)) (Narrow (fileSize mergedVersion n)) ∷ []) (accepted (n ∷ fileSize mergedVersion n ∷ []))
+  answer-is = ap (λ (k : ℕ). firstOf (refuse (ltb (length b) (fileSize mergedVersion k)) (Narrow (fileSize mergedVersion k)) ∷ []) (accepted (k ∷ fileSize mergedVersion k ∷ []))) z
 
-  by-answer : (a : Answer) → answerOf (merged p) b ≡ a → endingOf (merged p) b ≡ (a, ifAccepted a (placed (fileOf p) b) b)
-  by-answer a e = ap (λ (x : Answer). (x, ifAccepted x (placed (fileOf p) b) b)) e
+  by-answer : (a : Answer) → answerOf (merged p) b ≡ a → endingOf (merged p) b ≡ (a, ifAccepted a (placed (fileOf mergedVersion p) b) b)
+  by-answer a e = ap (λ (x : Answer). (x, ifAccepted x (placed (fileOf mergedVersion p) b) b)) e
 
-  pub narrow-made : length b < headSize + recordSize * n → ending (Refused (Narrow (headSize + recordSize * n))) b ≡ endingOf (merged p) b
-  narrow-made l =
-      sym (by-answer (refusal (Narrow (fileSize n)))
+  pub narrow-made : (k : ℕ) → k ≡ fileSize mergedVersion n → length b < k → ending (Refused (Narrow k)) b ≡ endingOf (merged p) b
+  narrow-made k e l =
+      ap (λ (k : ℕ). ending (Refused (Narrow k)) b) e
+      ∙ sym (by-answer (refusal (Narrow (fileSize mergedVersion n)))
       (answer-is
-      ∙ ap (λ (t : Bool). firstOf (refuse t (Narrow (fileSize n)) ∷ []) (accepted (n ∷ fileSize n ∷ []))) (lt-ltb (length b) (fileSize n) l)))
+      ∙ ap (λ (t : Bool). firstOf (refuse t (Narrow (fileSize mergedVersion n)) ∷ []) (accepted (n ∷ fileSize mergedVersion n ∷ []))) (lt-ltb (length b) (fileSize mergedVersion n) (rw e at l))))
 
-  pub done-made : (c : List ℕ) → headSize + recordSize * n ≤ length b → c ≡ placed (fileOf p) b → ending (Done n (headSize + recordSize * n)) c ≡ endingOf (merged p) b
-  done-made c l e =
-      ap (λ (x : List ℕ). (accepted (n ∷ fileSize n ∷ []), x)) e
-      ∙ sym (by-answer (accepted (n ∷ fileSize n ∷ []))
+  pub done-made : (c : List ℕ) (k : ℕ) → k ≡ fileSize mergedVersion n → k ≤ length b → c ≡ placed (fileOf mergedVersion p) b → ending (Done n k) c ≡ endingOf (merged p) b
+  done-made c k g l e =
+      ap (λ (k : ℕ). ending (Done n k) c) g
+      ∙ ap (λ (x : List ℕ). (accepted (n ∷ fileSize mergedVersion n ∷ []), x)) e
+      ∙ sym (by-answer (accepted (n ∷ fileSize mergedVersion n ∷ []))
       (answer-is
-      ∙ ap (λ (t : Bool). firstOf (refuse t (Narrow (fileSize n)) ∷ []) (accepted (n ∷ fileSize n ∷ []))) (le-ltb (length b) (fileSize n) l)))
+      ∙ ap (λ (t : Bool). firstOf (refuse t (Narrow (fileSize mergedVersion n)) ∷ []) (accepted (n ∷ fileSize mergedVersion n ∷ []))) (le-ltb (length b) (fileSize mergedVersion n) (rw g at l))))
 
 -- ---- what a merging comes to is written
 
@@ -73,15 +75,15 @@ wrote-as a b m n p q = p ∙ ap (λ (x : Merging). endingOf x b) q
 in-order : (hs : Headers) (ps : List (List Entry)) (b : List ℕ) (left : List Entry → List Entry) (f : Merging → Merging)
     → ((r : Refusal) → f (refused r) ≡ refused r) → ((m : List Entry) → f (merged m) ≡ merged (left m))
     → answerOf (f (mergeOf hs ps)) b
-    ≡ firstOf (mergeChecks hs ps (length (left (leftOf hs (workingOf hs ps)))) b) (accepted (length (left (leftOf hs (workingOf hs ps))) ∷ fileSize (length (left (leftOf hs (workingOf hs ps)))) ∷ []))
+    ≡ firstOf (mergeChecks hs ps (length (left (leftOf hs (workingOf hs ps)))) b) (accepted (length (left (leftOf hs (workingOf hs ps))) ∷ fileSize mergedVersion (length (left (leftOf hs (workingOf hs ps)))) ∷ []))
 in-order hs [] b left f u v = ap (λ (m : Merging). answerOf m b) (u Bare)
 in-order hs (p ∷ ps) b left f u v = go (working hs p ps) (conflictOf hs (p ∷ ps))
   where
     go : (w : Working) (c : Found)
         → answerOf (f (finished hs w c)) b
         ≡ firstOf
-        (refuse false Bare ∷ refuse (isCrowded w) Crowded ∷ refuseAt Conflict c ∷ tooNarrow (length (left (leftOf hs w))) b ∷ [])
-        (accepted (length (left (leftOf hs w)) ∷ fileSize (length (left (leftOf hs w))) ∷ []))
+        (refuse false Bare ∷ refuse (isCrowded w) Crowded ∷ refuseAt Conflict c ∷ tooNarrow mergedVersion (length (left (leftOf hs w))) b ∷ [])
+        (accepted (length (left (leftOf hs w)) ∷ fileSize mergedVersion (length (left (leftOf hs w))) ∷ []))
     go crowded c = ap (λ (m : Merging). answerOf m b) (u Crowded)
     go (list w) (At h) = ap (λ (m : Merging). answerOf m b) (u (Conflict h))
     go (list w) Nothing = ap (λ (m : Merging). answerOf m b) (v (struck hs w))
@@ -91,7 +93,7 @@ pub checks-in-order : (hs : Headers) (ps : List (List Entry)) (b : List ℕ)
     → answerOf (mergeOf hs ps) b
     ≡ firstOf
     (mergeChecks hs ps (length (leftOf hs (workingOf hs ps))) b)
-    (accepted (length (leftOf hs (workingOf hs ps)) ∷ fileSize (length (leftOf hs (workingOf hs ps))) ∷ []))
+    (accepted (length (leftOf hs (workingOf hs ps)) ∷ fileSize mergedVersion (length (leftOf hs (workingOf hs ps))) ∷ []))
 checks-in-order hs ps b = in-order hs ps b (λ m. m) (λ m. m) (λ r. refl) (λ m. refl)
 
 -- installing: 12, 8, 9, 10, 11
@@ -99,7 +101,7 @@ pub install-checks-in-order : (hs : Headers) (ranking : List ℕ) (ps : List (Li
     → answerOf (installOf hs ranking ps) b
     ≡ firstOf
     (installChecks hs ranking ps (length (struck hs (map (withBest ranking) (leftOf hs (workingOf hs ps))))) b)
-    (accepted (length (struck hs (map (withBest ranking) (leftOf hs (workingOf hs ps)))) ∷ fileSize (length (struck hs (map (withBest ranking) (leftOf hs (workingOf hs ps))))) ∷ []))
+    (accepted (length (struck hs (map (withBest ranking) (leftOf hs (workingOf hs ps)))) ∷ fileSize mergedVersion (length (struck hs (map (withBest ranking) (leftOf hs (workingOf hs ps))))) ∷ []))
 install-checks-in-order hs ranking ps b = go (isRanking ranking)
   where
     n : ℕ
@@ -107,6 +109,6 @@ install-checks-in-order hs ranking ps b = go (isRanking ranking)
 
     go : (t : Bool)
         → answerOf (cond t (installed hs ranking (mergeOf hs ps)) (refused Ranking)) b
-        ≡ firstOf (refuse (not t) Ranking ∷ mergeChecks hs ps n b) (accepted (n ∷ fileSize n ∷ []))
+        ≡ firstOf (refuse (not t) Ranking ∷ mergeChecks hs ps n b) (accepted (n ∷ fileSize mergedVersion n ∷ []))
     go true = in-order hs ps b (λ m. struck hs (map (withBest ranking) m)) (installed hs ranking) (λ r. refl) (λ m. refl)
     go false = refl

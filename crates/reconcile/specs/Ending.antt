@@ -9,7 +9,7 @@ use Rattle.policy.specs.declared.refusal.Refusal.the-variants.{Bare, Crowded, C
 use Rattle.policy.specs.Header.{Headers}
 use Rattle.policy.specs.Ranking.{isRanking}
 use Rattle.policy.specs.Refusals.{Answer, refusal, accepted, refuse, refuseAt, firstOf}
-use Rattle.wire.specs.Format.{fileSize, fileOf}
+use Rattle.wire.specs.Format.{mergedVersion, fileSize, fileOf}
 use Rattle.wire.specs.Answers.{ifAccepted}
 use Rattle.wire.specs.Writing.{placed, tooNarrow}
 use Rattle.reconcile.specs.Rules.{Working, list, crowded, working, conflictOf, struck, Merging, refused, merged}
@@ -17,12 +17,12 @@ use Rattle.reconcile.specs.Rules.{Working, list, crowded, working, confl
 -- the answer: 8, 9, 10 or 11, or the file's entry count and length
 abbrev pub answerOf : Merging → List ℕ → Answer
 answerOf (refused r) buffer = refusal r
-answerOf (merged p) buffer = firstOf (tooNarrow (length p) buffer ∷ []) (accepted (length p ∷ fileSize (length p) ∷ []))
+answerOf (merged p) buffer = firstOf (tooNarrow mergedVersion (length p) buffer ∷ []) (accepted (length p ∷ fileSize mergedVersion (length p) ∷ []))
 
--- the file of the merged list
+-- the file of the merged list: of version 2, whatever was filed (02, Wish 4)
 abbrev pub fileFor : Merging → List ℕ
 fileFor (refused r) = []
-fileFor (merged p) = fileOf p
+fileFor (merged p) = fileOf mergedVersion p
 
 -- the answer, and the buffer's final contents: a refusal leaves it as it was
 abbrev pub endingOf : Merging → List ℕ → Answer × List ℕ
@@ -53,7 +53,7 @@ mergeChecks hs ps n buffer =
     refuse (noList ps) Bare
     ∷ refuse (isCrowded (workingOf hs ps)) Crowded
     ∷ refuseAt Conflict (conflictOf hs ps)
-    ∷ tooNarrow n buffer
+    ∷ tooNarrow mergedVersion n buffer
     ∷ []
 
 -- 12, 8, 9, 10, and 11 for a file of n entries

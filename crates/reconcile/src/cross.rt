@@ -11,9 +11,9 @@ use policy::sides::part_in_row;
 use region::least::least_missed;
 use wire::format::FILED_LIMIT;
 use wire::format::LIST_LIMIT;
-use wire::format::RECORD_SIZE;
-use wire::record::read_entry;
-use wire::rows::decode_records;
+use wire::record::entry_in;
+use wire::record::records_in;
+use wire::rows::decode_entries;
 use wire::rows::put_row;
 ghost use mathlib.Core.Path.{_≡_};
 ghost use mathlib.Core.Bool.{not, _&&_};
@@ -24,7 +24,7 @@ ghost use Rattle.policy.specs.Header.{lies, headers};
 ghost use Rattle.policy.specs.Policy.{missed};
 ghost use Rattle.policy.specs.Sides.{boxOf};
 ghost use Rattle.policy.specs.steps.Rows.{rowSize, rowsIn};
-ghost use Rattle.wire.specs.Format.{recordSize, filedLimit, listLimit};
+ghost use Rattle.wire.specs.Format.{headSize, filedLimit, listLimit, recordsIn};
 ghost use Rattle.reconcile.specs.Rules.{noHeader, list, next};
 ghost use Rattle.reconcile.specs.steps.Pass.{Apart, RowsOf};
 ghost use Rattle.reconcile.specs.steps.Stage.{stageIn, filedIn};
@@ -55,16 +55,16 @@ fn next_meeting(rows: &[u32], j: usize, b: &[u32; SIDES]) -> usize
     k
 }
 
-// The first entries of the working list, as many as count says, crossed with a list of records, whose rows are theirs.
+// The first entries of the working list, as many as count says, crossed with the list of a file, whose rows are theirs.
 // Most pairs have nothing in common, and are passed; of the others the entry is made if it is kept.
 fn cross_rows(
     kept: [Entry; LIST_LIMIT],
     count: usize,
     rows: &mut [u32],
-    records: &[u8],
+    file: &[u8],
     theirs: &[u32],
 ) -> Stage
-    requires { ⌜ (count ≤ listLimit) × ((length (now rows) ≡ rowSize * listLimit) × RowsOf (now records) (now theirs)) ⌝ }
+    requires { ⌜ (count ≤ listLimit) × ((length (now rows) ≡ rowSize * listLimit) × RowsOf (now file) (now theirs)) ⌝ }
     ensures { λ r. ⌜ stageIn r ≡ some (next headers (list (take count kept)) (rowsIn (now (theirs .entry)))) ⌝ }
 {
     let total = theirs.len() / ROW;
@@ -82,7 +82,7 @@ fn cross_rows(
             continue;
         }
         let part = part_in_row(theirs, ROW * j, &sides);
-        let at = RECORD_SIZE * j;
+        let number = j;
         j += 1;
         if !is_left(&rows[0..ROW * n], &part) {
             continue;
@@ -94,7 +94,7 @@ fn cross_rows(
                 bare: false,
             };
         }
-        let e = both_entries(d, read_entry(records, at));
+        let e = both_entries(d, entry_in(file, number));
         entries[n] = e;
         put_row(rows, ROW * n, e);
         n += 1;
@@ -106,26 +106,26 @@ fn cross_rows(
     }
 }
 
-// How many records are read of a slice: no more than a filed list has.
-pub(crate) fn records_in(records: &[u8]) -> usize
-    ensures { λ r. ⌜ r ≡ min (length (now (records .entry)) / recordSize) filedLimit ⌝ }
+// How many entries are read of a file: no more than a filed list has.
+pub(crate) fn filed_count(file: &[u8]) -> usize
+    ensures { λ r. ⌜ r ≡ min (recordsIn (now (file .entry))) filedLimit ⌝ }
 {
-    let n = records.len() / RECORD_SIZE;
+    let n = records_in(file);
     if n < FILED_LIMIT { n } else { FILED_LIMIT }
 }
 
-// The same for a slice of records, which are decoded once.
+// The same for the list of a file, which is decoded once.
 pub(crate) fn cross_list(
     kept: [Entry; LIST_LIMIT],
     count: usize,
     rows: &mut [u32],
-    records: &[u8],
+    file: &[u8],
 ) -> Stage
-    requires { ⌜ (count ≤ listLimit) × (length (now rows) ≡ rowSize * listLimit) ⌝ }
-    ensures { λ r. ⌜ stageIn r ≡ some (next headers (list (take count kept)) (filedIn (now (records .entry)))) ⌝ }
+    requires { ⌜ (count ≤ listLimit) × ((length (now rows) ≡ rowSize * listLimit) × (headSize ≤ length (now file))) ⌝ }
+    ensures { λ r. ⌜ stageIn r ≡ some (next headers (list (take count kept)) (filedIn (now (file .entry)))) ⌝ }
 {
-    let total = records_in(records);
+    let total = filed_count(file);
     let mut theirs = [0u32; ROW * FILED_LIMIT];
-    decode_records(records, 0, total, &mut theirs);
-    cross_rows(kept, count, rows, records, &theirs[0..ROW * total])
+    decode_entries(file, 0, total, &mut theirs);
+    cross_rows(kept, count, rows, file, &theirs[0..ROW * total])
 }

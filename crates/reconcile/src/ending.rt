@@ -7,8 +7,8 @@ use crate::stage::ROWS;
 use crate::stage::Stage;
 use crate::strike::Struck;
 use policy::refusal::Refusal;
-use wire::format::HEAD_SIZE;
-use wire::format::RECORD_SIZE;
+use wire::format::MERGED_VERSION;
+use wire::format::file_size;
 use wire::write::put_entries;
 ghost use mathlib.Core.Path.{_≡_};
 ghost use mathlib.Core.Bool.{true};
@@ -37,12 +37,12 @@ fn write_merged(left: Struck, n: usize, buffer: &mut [u8]) -> Merged
 {
     let first = left.first;
     let count = n - first;
-    let size = HEAD_SIZE + RECORD_SIZE * count;
+    let size = file_size(MERGED_VERSION, count);
     if buffer.len() < size {
         return Merged::Refused(Refusal::Narrow(size));
     }
     let entries = left.entries;
-    put_entries(entries, first, n, buffer);
+    put_entries(entries, first, n, MERGED_VERSION, buffer);
     Merged::Done {
         count,
         length: size,

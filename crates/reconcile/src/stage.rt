@@ -1,22 +1,21 @@
 // The working list after the parties so far.
 use crate::cross::cross_list;
+use crate::cross::filed_count;
 use crate::cross::is_left;
-use crate::cross::records_in;
 use policy::entry::Entry;
 use policy::entry::sides_of;
 use policy::sides::ROW;
 use wire::format::LIST_LIMIT;
-use wire::format::RECORD_SIZE;
 use wire::list::EMPTY;
-use wire::record::read_entry;
+use wire::record::entry_in;
 use wire::rows::put_row;
 ghost use mathlib.Core.Path.{_≡_};
 ghost use mathlib.Core.Option.{none, some};
-ghost use Prim.Native.Nat.{_*_};
+ghost use Prim.Native.Nat.{_*_, _≤_};
 ghost use lib.ListN.{length};
 ghost use Rattle.policy.specs.Header.{headers};
 ghost use Rattle.policy.specs.steps.Rows.{rowSize};
-ghost use Rattle.wire.specs.Format.{listLimit};
+ghost use Rattle.wire.specs.Format.{headSize, listLimit};
 ghost use Rattle.reconcile.specs.Rules.{trimmed, limited};
 ghost use Rattle.reconcile.specs.steps.Stage.{stageIn, filedIn, added};
 
@@ -43,16 +42,16 @@ pub fn no_list() -> Stage
     }
 }
 
-// Rule 2 for the records of the first list. They are fewer than the places.
-fn first_list(mut entries: [Entry; LIST_LIMIT], rows: &mut [u32], records: &[u8]) -> Stage
+// Rule 2 for the first list. Its entries are fewer than the places.
+fn first_list(mut entries: [Entry; LIST_LIMIT], rows: &mut [u32], file: &[u8]) -> Stage
     requires { ⌜ length (now rows) ≡ rowSize * listLimit ⌝ }
-    ensures { λ r. ⌜ stageIn r ≡ some (limited (trimmed headers (filedIn (now (records .entry))))) ⌝ }
+    ensures { λ r. ⌜ stageIn r ≡ some (limited (trimmed headers (filedIn (now (file .entry))))) ⌝ }
 {
-    let total = records_in(records);
+    let total = filed_count(file);
     let mut n: usize = 0;
     let mut j: usize = 0;
     while j < total {
-        let e = read_entry(records, RECORD_SIZE * j);
+        let e = entry_in(file, j);
         let sides = sides_of(e);
         j += 1;
         if !is_left(&rows[0..ROW * n], &sides) {
@@ -69,16 +68,17 @@ fn first_list(mut entries: [Entry; LIST_LIMIT], rows: &mut [u32], records: &[u8]
     }
 }
 
-// Rules 1 and 2 for the records of one party's list more. The rows that are lent may hold anything.
-pub fn add_list(s: Stage, rows: &mut [u32; ROWS], records: &[u8]) -> Stage
-    ensures { λ r. ⌜ stageIn r ≡ added headers (stageIn s) (filedIn (now (records .entry))) ⌝ }
+// Rules 1 and 2 for one party's list more, in a file. The rows that are lent may hold anything.
+pub fn add_list(s: Stage, rows: &mut [u32; ROWS], file: &[u8]) -> Stage
+    requires { ⌜ headSize ≤ length (now file) ⌝ }
+    ensures { λ r. ⌜ stageIn r ≡ added headers (stageIn s) (filedIn (now (file .entry))) ⌝ }
 {
     let entries = s.entries;
     if s.bare {
-        return first_list(entries, rows, records);
+        return first_list(entries, rows, file);
     }
     if LIST_LIMIT < s.count {
         return s;
     }
-    cross_list(entries, s.count, rows, records)
+    cross_list(entries, s.count, rows, file)
 }

@@ -1,6 +1,6 @@
 -- What the last entries of a list miss, and what that shows of the whole list.
 -- Assumes nothing.
-use Prim.Native.Nat.{ℕ, _+_, _*_, _-_, _≤_, _<_}
+use Prim.Native.Nat.{ℕ, _+_, _-_, _≤_, _<_}
 use native.Mathlib.Omega.{arith}
 use mathlib.Core.Path.{_≡_, refl, sym, _∙_, ap, subst}
 use mathlib.Core.Bool.{Bool, true, false, _&&_, and-false}
@@ -19,8 +19,8 @@ use Rattle.policy.specs.steps.Rows.{rowsIn}
 use Rattle.policy.proofs.Bool.{and-intro, and-left}
 use Rattle.policy.proofs.Least.{least-at, least-none, at-tells, none-tells, lesser-last}
 use Rattle.policy.proofs.Policy.{missed-append, uncaught-by}
-use Rattle.wire.specs.Format.{headSize, recordSize, filedLimit, entriesFrom}
-use Rattle.wire.proofs.Entries.{entries-split}
+use Rattle.wire.specs.Format.{filedLimit, entriesFrom}
+use Rattle.wire.proofs.Entries.{first-split}
 use Rattle.region.specs.ListChecks.{gapOf}
 
 -- ---- a list and its last entries, over any set of headers
@@ -53,35 +53,35 @@ pub decoded-missed : (rows : List ℕ) (p : List Entry) (x : Box) (found : Found
 decoded-missed rows p x found e g = g ∙ lesser-last (leastIn headers x (missed (rowsIn rows))) ∙ ap (λ (p : List Entry). leastIn headers x (missed p)) e
 
 module _ (s : List ℕ) (n last : ℕ) (x : Box) where
-  last-of : last ≤ filedLimit → filedLimit < n → entriesFrom s headSize n ≡ entriesFrom s headSize (n - last) ++ entriesFrom s (headSize + recordSize * (n - last)) last
-  last-of l m = ap (entriesFrom s headSize) (parts n last l m) ∙ entries-split s headSize (n - last) last
+  last-of : last ≤ filedLimit → filedLimit < n → entriesFrom s 0 n ≡ entriesFrom s 0 (n - last) ++ entriesFrom s (n - last) last
+  last-of l m = ap (entriesFrom s 0) (parts n last l m) ∙ first-split s (n - last) last
     where
       parts : (n k : ℕ) → k ≤ filedLimit → filedLimit < n → n ≡ n - k + k
       parts n k l m = omega arith
 
   -- the last records leave nothing
-  pub closed-by-last : (found : Found) → last ≤ filedLimit → filedLimit < n → found ≡ leastIn headers x (missed (entriesFrom s (headSize + recordSize * (n - last)) last)) → found ≡ Nothing
-      → Nothing ≡ leastIn headers x (missed (entriesFrom s headSize n))
+  pub closed-by-last : (found : Found) → last ≤ filedLimit → filedLimit < n → found ≡ leastIn headers x (missed (entriesFrom s (n - last) last)) → found ≡ Nothing
+      → Nothing ≡ leastIn headers x (missed (entriesFrom s 0 n))
   closed-by-last found l m f e =
       sym
       (ap (λ (p : List Entry). leastIn headers x (missed p)) (last-of l m)
-      ∙ last-miss-none headers x (entriesFrom s headSize (n - last)) (entriesFrom s (headSize + recordSize * (n - last)) last) (sym f ∙ e))
+      ∙ last-miss-none headers x (entriesFrom s 0 (n - last)) (entriesFrom s (n - last) last) (sym f ∙ e))
 
   -- or a header that no record matches
-  pub missed-by-all : (found : Found) (h : Header) (c : Caught) → last ≤ filedLimit → filedLimit < n → found ≡ leastIn headers x (missed (entriesFrom s (headSize + recordSize * (n - last)) last)) → found ≡ At h
-      → c ≡ catcher (entriesFrom s headSize n) h → c ≡ Uncaught → At h ≡ leastIn headers x (missed (entriesFrom s headSize n))
+  pub missed-by-all : (found : Found) (h : Header) (c : Caught) → last ≤ filedLimit → filedLimit < n → found ≡ leastIn headers x (missed (entriesFrom s (n - last) last)) → found ≡ At h
+      → c ≡ catcher (entriesFrom s 0 n) h → c ≡ Uncaught → At h ≡ leastIn headers x (missed (entriesFrom s 0 n))
   missed-by-all found h c l m f e g u =
       sym
       (ap (λ (p : List Entry). leastIn headers x (missed p)) (last-of l m)
-      ∙ last-miss-least headers x (entriesFrom s headSize (n - last)) (entriesFrom s (headSize + recordSize * (n - last)) last) h (sym f ∙ e)
-      (subst (λ (p : List Entry). missed p h ≡ true) (last-of l m) (uncaught-by 0 (entriesFrom s headSize n) h (sym g ∙ u))))
+      ∙ last-miss-least headers x (entriesFrom s 0 (n - last)) (entriesFrom s (n - last) last) h (sym f ∙ e)
+      (subst (λ (p : List Entry). missed p h ≡ true) (last-of l m) (uncaught-by 0 (entriesFrom s 0 n) h (sym g ∙ u))))
 
 -- a list without a gap has none in x
-pub no-gap-in : (s : List ℕ) (n : ℕ) (x : Box) (t : Bool) → (t ≡ true → gapOf (entriesFrom s headSize n) ≡ Nothing) → t ≡ true
-    → Nothing ≡ leastIn headers x (missed (entriesFrom s headSize n))
+pub no-gap-in : (s : List ℕ) (n : ℕ) (x : Box) (t : Bool) → (t ≡ true → gapOf (entriesFrom s 0 n) ≡ Nothing) → t ≡ true
+    → Nothing ≡ leastIn headers x (missed (entriesFrom s 0 n))
 unfolding leastIn
 no-gap-in s n x t f q =
     sym (least-none headers (λ h. lies x h && missed p h) λ h a. ap (lies x h &&_) (none-tells headers (missed p) (f q) h a) ∙ and-false (lies x h))
   where
     p : List Entry
-    p = entriesFrom s headSize n
+    p = entriesFrom s 0 n

@@ -1,6 +1,6 @@
 -- Checks 1 to 5 of a file: check 5 decides after the others.
 -- Assumes nothing.
-use Prim.Native.Nat.{ℕ, _+_, _*_, _-_, _≤_, _<_}
+use Prim.Native.Nat.{ℕ, _*_, _-_, _≤_, _<_}
 use native.Mathlib.Omega.{arith}
 use mathlib.Core.Path.{_≡_, sym, _∙_, ap, ap₂, subst}
 use mathlib.Core.Bool.{Bool, true}
@@ -26,10 +26,11 @@ use Rattle.policy.proofs.Policy.{covering-by}
 use Rattle.policy.proofs.Refusals.{Pass, Refuse, refusal-clash, refusal-refuses, refuse-refuses, at-refuses, accepted-passes, passes, at-passes, append-passes}
 use Rattle.wire.specs.declared.check.Checked.{Checked}
 use Rattle.wire.specs.declared.check.Checked.the-variants.{Good, Refused}
-use Rattle.wire.specs.Format.{headSize, recordSize, countIn, entryAt, entriesFrom, listIn, fileSize}
+use Rattle.wire.specs.Format.{countIn, placeIn, entriesFrom, listIn}
+use Rattle.wire.specs.steps.Numbered.{entryIn}
 use Rattle.wire.specs.Checks.{missized, badVersion, badCount, firstCrossed, refuseEntry, fileChecks, checksOf, checked}
 use Rattle.wire.proofs.Checked.{GoodFile, accepted-tells, good-tells, refused-tells}
-use Rattle.wire.proofs.Entries.{length-entries, entries-at}
+use Rattle.wire.proofs.Entries.{length-entries, first-at}
 use Rattle.region.specs.steps.Corner.{selectorIn}
 use Rattle.region.specs.ListChecks.{gapOf, listChecks}
 use Rattle.region.specs.steps.Covering.{gapChecked, listChecksOf, InRows, Decoded}
@@ -42,12 +43,12 @@ use Rattle.policy.proofs.HeaderSet.{in-everything}
 all-closes : (hs : Headers) (p : List Entry) (i : ℕ) → i < length p → selectorIn p i ≡ everything → least hs (missed p) ≡ Nothing
 all-closes hs p i l e = least-none hs (missed p) λ h a. catches p i l h (ap (λ (b : Box). lies b h) e ∙ in-everything hs h a)
 
-pub closed-by-all : (s : List ℕ) (n : ℕ) (t : Bool) → 1 ≤ n → t ≡ sameBox arity (selector (entryAt s (headSize + recordSize * (n - 1)))) everything
-    → t ≡ true → gapOf (entriesFrom s headSize n) ≡ Nothing
+pub closed-by-all : (s : List ℕ) (n : ℕ) (t : Bool) → 1 ≤ n → t ≡ sameBox arity (selector (entryIn s (n - 1))) everything
+    → t ≡ true → gapOf (entriesFrom s 0 n) ≡ Nothing
 unfolding selectorIn
 closed-by-all s n t l e q =
-    all-closes headers (entriesFrom s headSize n) (n - 1) (there n (length (entriesFrom s headSize n)) l (length-entries s headSize n))
-    (ap selector (entries-at s headSize n (n - 1) (rowAt [] 0) (last n l)) ∙ same-box arity (selector (entryAt s (headSize + recordSize * (n - 1)))) everything (sym e ∙ q))
+    all-closes headers (entriesFrom s 0 n) (n - 1) (there n (length (entriesFrom s 0 n)) l (length-entries s 0 n))
+    (ap selector (first-at s n (n - 1) (rowAt [] 0) (last n l)) ∙ same-box arity (selector (entryIn s (n - 1))) everything (sym e ∙ q))
   where
     last : (n : ℕ) → 1 ≤ n → n - 1 < n
     last n l = omega arith
@@ -74,7 +75,7 @@ decoded-gap rows p gap e g = g ∙ ap gapOf e
 -- ---- checks 1 to 5
 
 module _ (s : List ℕ) (limit : ℕ) (r : Checked) (e : checked r ≡ checksOf s limit) where
-  pub good-size : (n : ℕ) → r ≡ Good n → (length s ≡ fileSize n) × ((1 ≤ n) × (n ≤ limit))
+  pub good-size : (n : ℕ) → r ≡ Good n → (length s ≡ placeIn s n) × ((1 ≤ n) × (n ≤ limit))
   good-size n g = let f = good-tells s limit r n e g in (f .size, (f .least-is, f .most-is))
 
   pub file-refused : (x : Refusal) → r ≡ Refused x → refusal x ≡ listChecksOf s limit
@@ -82,17 +83,17 @@ module _ (s : List ℕ) (limit : ℕ) (r : Checked) (e : checked r ≡ checksOf 
   file-refused x g = refused-tells s limit r x e g (refuseAt Gap (gapOf (listIn s)) ∷ []) (accepted (countIn s ∷ []))
 
   -- check 5 decides
-  pub gap-decides : (n : ℕ) (gap : Found) (q : Checked) → r ≡ Good n → gap ≡ gapOf (entriesFrom s headSize n) → checked q ≡ gapChecked gap n → checked q ≡ listChecksOf s limit
+  pub gap-decides : (n : ℕ) (gap : Found) (q : Checked) → r ≡ Good n → gap ≡ gapOf (entriesFrom s 0 n) → checked q ≡ gapChecked gap n → checked q ≡ listChecksOf s limit
   unfolding listChecksOf
   gap-decides n gap q g f c =
       let good = good-tells s limit r n e g in
       c
-      ∙ ap₂ gapChecked (f ∙ ap (λ (k : ℕ). gapOf (entriesFrom s headSize k)) (sym (good .count-is))) (sym (good .count-is))
+      ∙ ap₂ gapChecked (f ∙ ap (λ (k : ℕ). gapOf (entriesFrom s 0 k)) (sym (good .count-is))) (sym (good .count-is))
       ∙ sym (good .passes (refuseAt Gap (gapOf (listIn s)) ∷ []) (accepted (countIn s ∷ [])))
 
   -- and the rows are the list
   pub list-decoded : (n : ℕ) (gap : Found) (q : Checked) (rows : List ℕ) → r ≡ Good n → checked q ≡ gapChecked gap n
-      → InRows rows n (entriesFrom s headSize n) → Decoded q rows (listIn s)
+      → InRows rows n (entriesFrom s 0 n) → Decoded q rows (listIn s)
   list-decoded n gap (Refused x) rows g c d = tt
   list-decoded n gap (Good m) rows g c d = go gap c
     where
@@ -100,7 +101,7 @@ module _ (s : List ℕ) (limit : ℕ) (r : Checked) (e : checked r ≡ checksOf 
       go (At h) c = refusal-clash (Gap h) (m ∷ []) (sym c)
       go Nothing c =
           subst (λ (k : ℕ). Decoded (Good k) rows (listIn s)) (sym (ap (λ (a : Answer). getD (a .values) 0 0) c))
-          (d .0, d .1 ∙ ap (entriesFrom s headSize) (sym (good-tells s limit r n e g .count-is)))
+          (d .0, d .1 ∙ ap (entriesFrom s 0) (sym (good-tells s limit r n e g .count-is)))
 
 -- ---- what an answer of checks 1 to 5 tells
 

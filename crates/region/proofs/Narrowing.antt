@@ -39,24 +39,27 @@ protocols b = b .1 .1 .1 .1 .0
 
 -- the box with other ports and protocols
 abbrev pub withRanges : Box → Range → Range → Range → Box
-withRanges b l r q = (b .0, (b .1 .0, (l, (r, (q, tt)))))
+withRanges b l r q = (b .0, (b .1 .0, (l, (r, (q, b .1 .1 .1 .1 .1)))))
 
 module _ (b : Box) (x : Row ℕ arity) (i : inside arity b x ≡ true) where
-  after : inside 3 (b .1 .1) (x .1 .1) ≡ true
-  after = in-rest 3 (b .1) (x .1) (in-rest 4 b x i)
+  after : inside 4 (b .1 .1) (x .1 .1) ≡ true
+  after = in-rest 4 (b .1) (x .1) (in-rest 5 b x i)
 
   in-local : within (localPort b) (x .1 .1 .0) ≡ true
-  in-local = in-first 2 (b .1 .1) (x .1 .1) after
+  in-local = in-first 3 (b .1 .1) (x .1 .1) after
 
   in-remote : within (remotePort b) (x .1 .1 .1 .0) ≡ true
-  in-remote = in-first 1 (b .1 .1 .1) (x .1 .1 .1) (in-rest 2 (b .1 .1) (x .1 .1) after)
+  in-remote = in-first 2 (b .1 .1 .1) (x .1 .1 .1) (in-rest 3 (b .1 .1) (x .1 .1) after)
+
+  last : inside 2 (b .1 .1 .1 .1) (x .1 .1 .1 .1) ≡ true
+  last = in-rest 2 (b .1 .1 .1) (x .1 .1 .1) (in-rest 3 (b .1 .1) (x .1 .1) after)
 
   in-protocols : within (protocols b) (x .1 .1 .1 .1 .0) ≡ true
-  in-protocols = in-first 0 (b .1 .1 .1 .1) (x .1 .1 .1 .1) (in-rest 1 (b .1 .1 .1) (x .1 .1 .1) (in-rest 2 (b .1 .1) (x .1 .1) after))
+  in-protocols = in-first 1 (b .1 .1 .1 .1) (x .1 .1 .1 .1) last
 
   -- a row stays in, if its ports and its protocol do
   stays : (l r q : Range) → within l (x .1 .1 .0) ≡ true → within r (x .1 .1 .1 .0) ≡ true → within q (x .1 .1 .1 .1 .0) ≡ true → inside arity (withRanges b l r q) x ≡ true
-  stays l r q f g h = and-intro (in-first 4 b x i) (and-intro (in-first 3 (b .1) (x .1) (in-rest 4 b x i)) (and-intro f (and-intro g (and-intro h refl))))
+  stays l r q f g h = and-intro (in-first 5 b x i) (and-intro (in-first 4 (b .1) (x .1) (in-rest 5 b x i)) (and-intro f (and-intro g (and-intro h (in-rest 1 (b .1 .1 .1 .1) (x .1 .1 .1 .1) last)))))
 
 -- narrower ranges make a part
 narrower : (b : Box) (l r q : Range) → ((n : ℕ) → within l n ≡ true → within (localPort b) n ≡ true) → ((n : ℕ) → within r n ≡ true → within (remotePort b) n ≡ true)
@@ -189,10 +192,11 @@ module _ (hs : Headers) (ps : Ports) (are : (h : Header) → among hs h ≡ (fit
             listed-proper : proper arity listed ≡ true
             listed-proper =
                 let c = corner-in arity b p in
-                let row : Row ℕ arity = (lows arity b .0, (lows arity b .1 .0, (localPort b .low, (remotePort b .low, (n .low, tt))))) in
+                let row : Row ℕ arity = (lows arity b .0, (lows arity b .1 .0, (localPort b .low, (remotePort b .low, (n .low, lows arity b .1 .1 .1 .1 .1))))) in
                 in-proper arity listed row
-                (and-intro (in-first 4 b (lows arity b) c) (and-intro (in-first 3 (b .1) (lows arity b .1) (in-rest 4 b (lows arity b) c))
-                (and-intro (in-local b (lows arity b) c) (and-intro (in-remote b (lows arity b) c) (and-intro (within-by n (n .low) (omega arith) l) refl)))))
+                (and-intro (in-first 5 b (lows arity b) c) (and-intro (in-first 4 (b .1) (lows arity b .1) (in-rest 5 b (lows arity b) c))
+                (and-intro (in-local b (lows arity b) c) (and-intro (in-remote b (lows arity b) c) (and-intro (within-by n (n .low) (omega arith) l)
+                (in-rest 1 (b .1 .1 .1 .1) (lows arity b .1 .1 .1 .1) (last b (lows arity b) c)))))))
 
 -- ---- what the code shows
 

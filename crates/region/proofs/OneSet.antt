@@ -1,6 +1,6 @@
 -- Another set than a given one, in a list whose entries have no other and in one that is searched.
 -- Assumes nothing.
-use Prim.Native.Nat.{ℕ, suc, _+_, _*_, _-_, _≤_}
+use Prim.Native.Nat.{ℕ, suc, _+_, _-_, _≤_}
 use native.Mathlib.Omega.{arith}
 use mathlib.Core.Path.{_≡_, refl, sym, _∙_, ap, subst, fun-ext}
 use mathlib.Core.Bool.{Bool, true, false, not, cond}
@@ -17,7 +17,8 @@ use Rattle.policy.specs.Entry.{matches}
 use Rattle.policy.specs.Policy.{actions, isCaught, allowed, missed}
 use Rattle.policy.specs.steps.Rows.{rowsIn}
 use Rattle.policy.proofs.Least.{lesser-last}
-use Rattle.wire.specs.Format.{headSize, recordSize, entryAt, entriesFrom}
+use Rattle.wire.specs.Format.{entriesFrom}
+use Rattle.wire.specs.steps.Numbered.{entryIn}
 use Rattle.region.specs.declared.treated.Sets.the-variants.{Other}
 use Rattle.region.specs.declared.search.Want.the-variants.{Differs}
 use Rattle.region.specs.steps.Treated.{judged, OneSet}
@@ -42,27 +43,27 @@ differs-if-missed a p x t found o q f = f ∙ ap (leastIn headers x) (fun-ext λ
 -- the records from number i on, and one more before them
 module _ (s : List ℕ) (n a : ℕ) where
   abbrev pub FromOn : ℕ → Type 0
-  FromOn i = OneSet a (entriesFrom s (headSize + recordSize * i) (n - i))
+  FromOn i = OneSet a (entriesFrom s i (n - i))
 
   pub none-yet : FromOn n
-  none-yet = subst (λ (m : ℕ). OneSet a (entriesFrom s (headSize + recordSize * n) m)) (none n) tt
+  none-yet = subst (λ (m : ℕ). OneSet a (entriesFrom s n m)) (none n) tt
     where
       none : (n : ℕ) → 0 ≡ n - n
       none n = omega arith
 
-  pub one-before : (i : ℕ) (e : Entry) → 1 ≤ i → i ≤ n → e ≡ entryAt s (headSize + recordSize * (i - 1)) → e .actions ≡ a → FromOn i → FromOn (i - 1)
-  one-before i e l m r q o =
-      subst (λ (k : ℕ). OneSet a (entriesFrom s (headSize + recordSize * (i - 1)) k)) (more i n l m)
-      (ap (λ (e : Entry). e .actions) (sym r) ∙ q, subst (λ (at : ℕ). OneSet a (entriesFrom s at (n - i))) (next i l) o)
+  pub one-before : (i x : ℕ) → 1 ≤ i → i ≤ n → x ≡ entryIn s (i - 1) .actions → x ≡ a → FromOn i → FromOn (i - 1)
+  one-before i x l m r q o =
+      subst (λ (k : ℕ). OneSet a (entriesFrom s (i - 1) k)) (more i n l m)
+      (sym r ∙ q, subst (λ (at : ℕ). OneSet a (entriesFrom s at (n - i))) (next i l) o)
     where
       more : (i n : ℕ) → 1 ≤ i → i ≤ n → suc (n - i) ≡ n - (i - 1)
       more i n l m = omega arith
 
-      next : (i : ℕ) → 1 ≤ i → headSize + recordSize * i ≡ headSize + recordSize * (i - 1) + recordSize
+      next : (i : ℕ) → 1 ≤ i → i ≡ i - 1 + 1
       next i l = omega arith
 
-  pub from-first : (i : ℕ) → i ≤ 0 → FromOn i → OneSet a (entriesFrom s headSize n)
-  from-first i l o = subst (λ (m : ℕ). OneSet a (entriesFrom s headSize m)) (whole n) (subst FromOn (zeroth i l) o)
+  pub from-first : (i : ℕ) → i ≤ 0 → FromOn i → OneSet a (entriesFrom s 0 n)
+  from-first i l o = subst (λ (m : ℕ). OneSet a (entriesFrom s 0 m)) (whole n) (subst FromOn (zeroth i l) o)
     where
       zeroth : (i : ℕ) → i ≤ 0 → i ≡ 0
       zeroth i l = omega arith

@@ -1,6 +1,6 @@
 -- Searching a region (01): the least header of a box that a file's list treats in a wanted way.
 use Prim.Native.Nat.{ℕ}
-use mathlib.Core.Bool.{Bool, true, false, not}
+use mathlib.Core.Bool.{Bool, true, false, not, cond}
 use mathlib.Core.List.{List, []}
 use lib.Dec.{eqb}
 use Rattle.policy.specs.declared.header.Header.{Header}
@@ -10,6 +10,7 @@ use Rattle.policy.specs.declared.entry.Entry.{Entry}
 use Rattle.policy.specs.declared.entry.Caught.{Caught}
 use Rattle.policy.specs.declared.entry.Caught.the-variants as catch
 use Rattle.policy.specs.Header.{Box, headers}
+use Rattle.policy.specs.Direction.{crossedBox}
 use Rattle.policy.specs.Least.{leastIn}
 use Rattle.policy.specs.Policy.{catcher, Allowed, actions, uncaught, allowed, missed}
 use Rattle.policy.specs.Refusals.{Answer, numbers, refusal, accepted, firstOf}
@@ -36,6 +37,10 @@ treated Uncaught p h = missed p h
 treated (CaughtBy k) p h = isBy k (catcher p h)
 treated (Differs s) p h = differsFrom s (allowed p h)
 
+-- the least header of a box with a property: a crossed box holds no header
+abbrev pub leastInBox : Box → (Header → Bool) → Found
+leastInBox b P = cond (crossedBox b) finding.Nothing (leastIn headers b P)
+
 -- a finding in 01's terms: the header, or none
 abbrev pub foundAnswer : Found → Answer
 foundAnswer (finding.At h) = accepted (numbers h)
@@ -43,7 +48,7 @@ foundAnswer finding.Nothing = accepted []
 
 -- checks 1 to 4 with up to 256 entries, and then the least such header of the box
 abbrev pub searchOf : List ℕ → Box → Want → Answer
-searchOf s b want = firstOf (fileChecks s listLimit) (foundAnswer (leastIn headers b (treated want (listIn s))))
+searchOf s b want = firstOf (fileChecks s listLimit) (foundAnswer (leastInBox b (treated want (listIn s))))
 
 -- the answer of a search in 01's terms
 abbrev pub searched : Searched → Answer

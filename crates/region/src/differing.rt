@@ -6,11 +6,9 @@ use policy::header::Found;
 use policy::sides::ROW;
 use policy::sides::SIDES;
 use wire::format::FILED_LIMIT;
-use wire::format::HEAD_SIZE;
 use wire::format::LIST_LIMIT;
-use wire::format::RECORD_SIZE;
-use wire::record::read_entry;
-use wire::rows::decode_records;
+use wire::record::set_in;
+use wire::rows::decode_entries;
 ghost use mathlib.Core.Path.{_≡_};
 ghost use mathlib.Core.Bool.{true};
 ghost use Prim.Native.Nat.{_*_, _≤_};
@@ -19,32 +17,32 @@ ghost use Rattle.policy.specs.Header.{headers};
 ghost use Rattle.policy.specs.Least.{leastIn};
 ghost use Rattle.policy.specs.Sides.{boxOf};
 ghost use Rattle.policy.specs.steps.Rows.{rowSize};
-ghost use Rattle.wire.specs.Format.{headSize, filedLimit, listLimit, fileSize, entriesFrom};
+ghost use Rattle.wire.specs.Format.{filedLimit, listLimit, placeIn, entriesFrom};
 ghost use Rattle.region.specs.declared.search.Want.the-variants.{Differs};
 ghost use Rattle.region.specs.Search.{treated};
 ghost use Rattle.region.specs.steps.Treated.{OneSet};
 
-// Whether each of the n records of a good file has the action set s.
+// Whether each of the n entries of a good file has the action set s.
 fn is_one_set(file: &[u8], n: usize, s: u16) -> bool
-    requires { ⌜ length (now file) ≡ fileSize n ⌝ }
-    ensures { λ t. ⌜ (t ≡ true → OneSet s (entriesFrom (now (file .entry)) headSize n)) ⌝ }
+    requires { ⌜ length (now file) ≡ placeIn (now file) n ⌝ }
+    ensures { λ t. ⌜ (t ≡ true → OneSet s (entriesFrom (now (file .entry)) 0 n)) ⌝ }
 {
     let mut i = n;
     while 0 < i {
         i -= 1;
-        if read_entry(file, HEAD_SIZE + RECORD_SIZE * i).actions != s {
+        if set_in(file, i) != s {
             return false;
         }
     }
     true
 }
 
-// The least header of b that the n records of a good file allow another set than s, or do not match. They are decoded into the rows that are lent.
+// The least header of b that the n entries of a good file allow another set than s, or do not match. They are decoded into the rows that are lent.
 fn differing_in_rows(file: &[u8], n: usize, rows: &mut [u32], b: &[u32; SIDES], s: u16) -> Found
-    requires { ⌜ (length (now file) ≡ fileSize n) × (rowSize * n ≤ length (now rows)) ⌝ }
-    ensures { λ r. ⌜ r ≡ leastIn headers (boxOf (now (b .entry)) 0) (treated (Differs s) (entriesFrom (now (file .entry)) headSize n)) ⌝ }
+    requires { ⌜ (length (now file) ≡ placeIn (now file) n) × (rowSize * n ≤ length (now rows)) ⌝ }
+    ensures { λ r. ⌜ r ≡ leastIn headers (boxOf (now (b .entry)) 0) (treated (Differs s) (entriesFrom (now (file .entry)) 0 n)) ⌝ }
 {
-    decode_records(file, HEAD_SIZE, n, rows);
+    decode_entries(file, 0, n, rows);
     let end = ROW * n;
     least_treated(
         &rows[0..0],
@@ -56,18 +54,18 @@ fn differing_in_rows(file: &[u8], n: usize, rows: &mut [u32], b: &[u32; SIDES], 
     )
 }
 
-// The same for as many records as can be filed: less memory is cleared.
+// The same for as many entries as can be filed: less memory is cleared.
 fn differing_in_few(file: &[u8], n: usize, b: &[u32; SIDES], s: u16) -> Found
-    requires { ⌜ (length (now file) ≡ fileSize n) × (n ≤ filedLimit) ⌝ }
-    ensures { λ r. ⌜ r ≡ leastIn headers (boxOf (now (b .entry)) 0) (treated (Differs s) (entriesFrom (now (file .entry)) headSize n)) ⌝ }
+    requires { ⌜ (length (now file) ≡ placeIn (now file) n) × (n ≤ filedLimit) ⌝ }
+    ensures { λ r. ⌜ r ≡ leastIn headers (boxOf (now (b .entry)) 0) (treated (Differs s) (entriesFrom (now (file .entry)) 0 n)) ⌝ }
 {
     let mut rows = [0u32; ROW * FILED_LIMIT];
     differing_in_rows(file, n, &mut rows, b, s)
 }
 
 fn differing_in_many(file: &[u8], n: usize, b: &[u32; SIDES], s: u16) -> Found
-    requires { ⌜ (length (now file) ≡ fileSize n) × (n ≤ listLimit) ⌝ }
-    ensures { λ r. ⌜ r ≡ leastIn headers (boxOf (now (b .entry)) 0) (treated (Differs s) (entriesFrom (now (file .entry)) headSize n)) ⌝ }
+    requires { ⌜ (length (now file) ≡ placeIn (now file) n) × (n ≤ listLimit) ⌝ }
+    ensures { λ r. ⌜ r ≡ leastIn headers (boxOf (now (b .entry)) 0) (treated (Differs s) (entriesFrom (now (file .entry)) 0 n)) ⌝ }
 {
     let mut rows = [0u32; ROW * LIST_LIMIT];
     differing_in_rows(file, n, &mut rows, b, s)
@@ -75,8 +73,8 @@ fn differing_in_many(file: &[u8], n: usize, b: &[u32; SIDES], s: u16) -> Found
 
 // The same for a list of either length. Where its entries have no set but s, what differs is not caught.
 pub(crate) fn least_differing(file: &[u8], n: usize, b: &[u32; SIDES], s: u16) -> Found
-    requires { ⌜ (length (now file) ≡ fileSize n) × ((1 ≤ n) × (n ≤ listLimit)) ⌝ }
-    ensures { λ r. ⌜ r ≡ leastIn headers (boxOf (now (b .entry)) 0) (treated (Differs s) (entriesFrom (now (file .entry)) headSize n)) ⌝ }
+    requires { ⌜ (length (now file) ≡ placeIn (now file) n) × ((1 ≤ n) × (n ≤ listLimit)) ⌝ }
+    ensures { λ r. ⌜ r ≡ leastIn headers (boxOf (now (b .entry)) 0) (treated (Differs s) (entriesFrom (now (file .entry)) 0 n)) ⌝ }
 {
     if is_one_set(file, n, s) {
         return least_uncaught(file, n, b);

@@ -2,6 +2,7 @@
 use crate::differing::least_differing;
 use crate::missed::least_uncaught;
 use crate::missed::missed_by_first;
+use policy::direction::is_crossed_box;
 use policy::entry::sides_of;
 use policy::header::Found;
 use policy::header::Header;
@@ -10,10 +11,8 @@ use policy::sides::SIDES;
 use policy::sides::part_in_row;
 use wire::check::Checked;
 use wire::check::check_file;
-use wire::format::HEAD_SIZE;
 use wire::format::LIST_LIMIT;
-use wire::format::RECORD_SIZE;
-use wire::record::read_entry;
+use wire::record::entry_in;
 ghost use mathlib.Core.Path.{_≡_};
 ghost use Prim.Native.Nat.{_≤_};
 ghost use lib.ListN.{length};
@@ -21,8 +20,8 @@ ghost use Rattle.policy.specs.Header.{headers};
 ghost use Rattle.policy.specs.Least.{leastIn};
 ghost use Rattle.region.specs.declared.search.Want.the-variants.{CaughtBy};
 ghost use Rattle.policy.specs.Sides.{boxOf};
-ghost use Rattle.wire.specs.Format.{headSize, listLimit, fileSize, entriesFrom};
-ghost use Rattle.region.specs.Search.{treated, foundAnswer, searchOf, searched};
+ghost use Rattle.wire.specs.Format.{listLimit, placeIn, entriesFrom};
+ghost use Rattle.region.specs.Search.{treated, leastInBox, foundAnswer, searchOf, searched};
 
 // What is looked for.
 pub enum Want {
@@ -40,25 +39,28 @@ pub enum Searched {
     Refused(Refusal),
 }
 
-// The least header of b that entry number k of a good file catches: in the entry's part, the least that the records before it miss. Mostly that is the
+// The least header of b that entry number k of a good file catches: in the entry's part, the least that the entries before it miss. Mostly that is the
 // part's least header.
 fn least_caught_by(file: &[u8], n: usize, b: &[u32; SIDES], k: usize) -> Found
-    requires { ⌜ (length (now file) ≡ fileSize n) × ((1 ≤ n) × (n ≤ listLimit)) ⌝ }
-    ensures { λ r. ⌜ r ≡ leastIn headers (boxOf (now (b .entry)) 0) (treated (CaughtBy k) (entriesFrom (now (file .entry)) headSize n)) ⌝ }
+    requires { ⌜ (length (now file) ≡ placeIn (now file) n) × ((1 ≤ n) × (n ≤ listLimit)) ⌝ }
+    ensures { λ r. ⌜ r ≡ leastIn headers (boxOf (now (b .entry)) 0) (treated (CaughtBy k) (entriesFrom (now (file .entry)) 0 n)) ⌝ }
 {
     if n <= k {
         return Found::Nothing;
     }
-    let sides = sides_of(read_entry(file, HEAD_SIZE + RECORD_SIZE * k));
+    let sides = sides_of(entry_in(file, k));
     let part = part_in_row(&sides, 0, b);
     missed_by_first(file, k, &part, 0)
 }
 
-// The least header of b that a good file's list of n entries treats as wanted.
+// The least header of b that a good file's list of n entries treats as wanted. A crossed box holds none, also one that is crossed by its direction alone.
 fn search_good(file: &[u8], n: usize, b: &[u32; SIDES], want: Want) -> Found
-    requires { ⌜ (length (now file) ≡ fileSize n) × ((1 ≤ n) × (n ≤ listLimit)) ⌝ }
-    ensures { λ r. ⌜ r ≡ leastIn headers (boxOf (now (b .entry)) 0) (treated want (entriesFrom (now (file .entry)) headSize n)) ⌝ }
+    requires { ⌜ (length (now file) ≡ placeIn (now file) n) × ((1 ≤ n) × (n ≤ listLimit)) ⌝ }
+    ensures { λ r. ⌜ r ≡ leastInBox (boxOf (now (b .entry)) 0) (treated want (entriesFrom (now (file .entry)) 0 n)) ⌝ }
 {
+    if is_crossed_box(b) {
+        return Found::Nothing;
+    }
     match want {
         Want::Uncaught => least_uncaught(file, n, b),
         Want::CaughtBy(k) => least_caught_by(file, n, b, k),

@@ -78,6 +78,7 @@ pub(crate) fn look_up_for_c(s: &[u8], at: usize) -> usize {
         h.local_port,
         h.remote_port,
         h.protocol,
+        h.direction,
     ));
     print_end();
     end

@@ -23,6 +23,7 @@ pub(crate) fn print_header(h: Header) {
     print_number(h.local_port as u64);
     print_number(h.remote_port as u64);
     print_number(h.protocol as u64);
+    print_number(h.direction as u64);
 }
 
 // A hexadecimal digit.

@@ -10,14 +10,16 @@ use policy::header::Header;
 use policy::sides::SIDES;
 use std::num::wrapping_add_usize;
 use wire::format::LIST_LIMIT;
-use wire::format::RECORD_SIZE;
 use wire::list::EMPTY;
 use wire::list::Entries;
 ghost use Prim.Native.Nat.{_≤_};
 
-pub const HEADER_SIZE: usize = 13;
+pub const HEADER_SIZE: usize = 14;
 
-pub const BOX_SIZE: usize = 26;
+pub const BOX_SIZE: usize = 28;
+
+// A record in the input has a direction, whatever the version of the list.
+const RECORD_SIZE: usize = BOX_SIZE + 2;
 
 // The most entries of a table.
 pub const TABLE_LIMIT: usize = 512;
@@ -29,6 +31,7 @@ pub(crate) fn header(s: &[u8], at: usize) -> Header {
         local_port: number2(s, at, 8),
         remote_port: number2(s, at, 10),
         protocol: number1(s, at, 12),
+        direction: number1(s, at, 13),
     }
 }
 
@@ -44,7 +47,9 @@ fn entry(s: &[u8], at: usize) -> Entry {
         remote_port_high: number2(s, at, 22),
         protocol_low: number1(s, at, 24),
         protocol_high: number1(s, at, 25),
-        actions: number2(s, at, 26),
+        direction_low: number1(s, at, 26),
+        direction_high: number1(s, at, 27),
+        actions: number2(s, at, 28),
     }
 }
 
@@ -61,10 +66,11 @@ fn entry_number(s: &[u8], at: usize, i: usize) -> Entry {
     )
 }
 
-// Where a list of entries to write ends: a count, and as many records, of which there are no more than 256.
+// Where a list of entries to write ends: its version, a count, and as many records, of which there are no more than 256.
 pub(crate) fn list_end(s: &[u8], at: usize) -> usize {
-    let records = behind(s, at, 4);
-    let count = number4(s, at, 0) as usize;
+    let place = behind(s, at, 1);
+    let records = behind(s, place, 4);
+    let count = number4(s, place, 0) as usize;
     if LIST_LIMIT < count {
         return behind(s, records, RECORD_SIZE * LIST_LIMIT);
     }
@@ -72,17 +78,27 @@ pub(crate) fn list_end(s: &[u8], at: usize) -> usize {
 }
 
 pub(crate) fn list(s: &[u8], at: usize) -> Entries {
-    let count = number4(s, at, 0) as usize;
+    let version = number1(s, at, 0);
+    let place = behind(s, at, 1);
+    let count = number4(s, place, 0) as usize;
     let mut entries = [EMPTY; LIST_LIMIT];
     let mut i: usize = 0;
     while i < LIST_LIMIT {
         if count <= i {
-            return Entries { entries, count };
+            return Entries {
+                version,
+                entries,
+                count,
+            };
         }
-        entries[i] = entry_number(s, at, i);
+        entries[i] = entry_number(s, place, i);
         i += 1;
     }
-    Entries { entries, count }
+    Entries {
+        version,
+        entries,
+        count,
+    }
 }
 
 // The number of a table's entries.

@@ -8,7 +8,7 @@ use Rattle.policy.specs.declared.refusal.Refusal.the-variants.{Missized, Crosse
 use Rattle.policy.specs.Header.{everything, header}
 use Rattle.policy.specs.Entry.{entry}
 use Rattle.policy.specs.Refusals.{accepted, refusal}
-use Rattle.wire.specs.Format.{fileOf}
+use Rattle.wire.specs.Format.{mergedVersion, fileOf}
 use Rattle.bench.specs.Calls.{filing, bookAfter}
 use Rattle.report.specs.Text.{ascii, decimal}
 use Rattle.report.specs.Report.{filingsOf, filingLine, mergingLines, reportOf}
@@ -28,7 +28,7 @@ two-records = refl
 -- ---- lines
 
 unfoldable at : ℕ → ℕ → Header
-at port protocol = header (0, (0, (port, (0, (protocol, tt)))))
+at port protocol = header (0, (0, (port, (0, (protocol, (0, tt))))))
 
 filed-line : filingLine 1 (accepted (32 ∷ [])) ≡ ascii "filed 1 32\n"
 unfolding decimal
@@ -42,17 +42,17 @@ crossed-line : filingLine 3 (refusal (Crossed 10)) ≡ ascii "refused 3 4 10\n"
 unfolding decimal
 crossed-line = refl
 
-gap-line : filingLine 255 (refusal (Gap (at 0 255))) ≡ ascii "refused 255 5 000000000000000000000000ff\n"
+gap-line : filingLine 255 (refusal (Gap (at 0 255))) ≡ ascii "refused 255 5 000000000000000000000000ff00\n"
 unfolding decimal at
 gap-line = refl
 
-conflict-line : mergingLines (refusal (Conflict (at 80 6)), []) ≡ ascii "refused 0 10 00000000000000000050000006\n"
+conflict-line : mergingLines (refusal (Conflict (at 80 6)), []) ≡ ascii "refused 0 10 0000000000000000005000000600\n"
 unfolding decimal at
 conflict-line = refl
 
 -- the list of 01's example
-merged-lines : mergingLines (accepted (1 ∷ 33 ∷ []), fileOf (entry everything 3 ∷ []))
-    ≡ ascii "merged 1\n00000000ffffffff00000000ffffffff0000ffff0000ffff00ff0003\n"
+merged-lines : mergingLines (accepted (1 ∷ 35 ∷ []), fileOf mergedVersion (entry everything 3 ∷ []))
+    ≡ ascii "merged 1\n00000000ffffffff00000000ffffffff0000ffff0000ffff00ff00010003\n"
 unfolding decimal
 merged-lines = refl
 

@@ -1,4 +1,4 @@
--- How long the report is at most: each record but the last has at least 3 bytes, and its line at most 42.
+-- How long the report is at most: each record but the last has at least 3 bytes, and its line at most 44.
 -- Assumes nothing.
 use Prim.Native.Nat.{ℕ, zero, suc, _+_, _*_, _/_, _%_, _^_, _≤_, _<_}
 use native.Mathlib.Nat.{pow-succ'}
@@ -19,8 +19,8 @@ use Rattle.policy.specs.declared.refusal.Refusal.{Refusal}
 use Rattle.policy.specs.declared.refusal.Refusal.the-variants.{Missized, Version, Count, Crossed, Gap, Party, Bare, Crowded, Conflict, Narrow}
 use Rattle.policy.specs.Entry.{crossed}
 use Rattle.policy.specs.Refusals.{Answer, refusal, accepted, refuse, refuseAt, firstOf}
-use Rattle.wire.specs.Format.{Bytes, headSize, recordSize, filedLimit, listLimit, fileSize, fileOf, countIn, listIn}
-use Rattle.wire.specs.Checks.{missized, badVersion, badCount, firstCrossedFrom, firstCrossed, refuseEntry}
+use Rattle.wire.specs.Format.{Bytes, mergedVersion, headSize, recordSize, filedLimit, listLimit, fileSize, fileOf, countIn, listIn}
+use Rattle.wire.specs.Checks.{missized, badVersion, badCount, firstFrom, firstCrossed, refuseEntry}
 use Rattle.wire.proofs.Entries.{length-entries}
 use Rattle.region.specs.ListChecks.{gapOf}
 use Rattle.policy.specs.Header.{headers}
@@ -61,14 +61,14 @@ hex-length (b ∷ s) = omega (arith, hex-length s)
 
 -- ---- the line of a filing
 
-refused-length : (p : ℕ) (a : Answer) → p < 256 → a .number < 12 → length (detail a) ≤ 27 → length (refusedLine p a) ≤ 42
+refused-length : (p : ℕ) (a : Answer) → p < 256 → a .number < 12 → length (detail a) ≤ 29 → length (refusedLine p a) ≤ 44
 refused-length p a h n d = simp length-append (omega (arith, digits-within 2 p (omega arith), digits-within 1 (a .number) (omega arith)))
 
 -- the line of an accepted filing
-filed-length : (p n : ℕ) → p < 256 → n < 65536 → length (filingLine p (accepted (n ∷ []))) ≤ 42
+filed-length : (p n : ℕ) → p < 256 → n < 65536 → length (filingLine p (accepted (n ∷ []))) ≤ 44
 filed-length p n h g = simp length-append (omega (arith, digits-within 2 p (omega arith), digits-within 4 n (omega arith)))
 
-entry-length : (i : ℕ) → i < 65536 → length (detail (refusal (Crossed i))) ≤ 27
+entry-length : (i : ℕ) → i < 65536 → length (detail (refusal (Crossed i))) ≤ 29
 entry-length i h = omega (arith, digits-within 4 i (omega arith))
 
 -- what holds of the answer of each check, and of an acceptance, holds of the first
@@ -96,25 +96,25 @@ module _ (P : Answer → Type 0) where
   each-entry none rs p e = e
 
 -- a crossed entry is one of the list
-crossed-within : (k : ℕ) (p : List Entry) (i : ℕ) → firstCrossedFrom k p ≡ some i → i < k + length p
+crossed-within : (k : ℕ) (p : List Entry) (i : ℕ) → firstFrom crossed k p ≡ some i → i < k + length p
 crossed-within k [] i e = absurd (let z : _≡_ {A = ℕ} 0 1 = cc in omega arith)
 crossed-within k (x ∷ p) i e = go (λ e. crossed-within (k + 1) p i e) (crossed x) e
   where
     taken : (a b : ℕ) → some a ≡ some b → a ≡ b
     taken a b e = cc
 
-    go : (firstCrossedFrom (k + 1) p ≡ some i → i < k + 1 + length p) → (t : Bool) → cond t (some k) (firstCrossedFrom (k + 1) p) ≡ some i → i < k + length (x ∷ p)
+    go : (firstFrom crossed (k + 1) p ≡ some i → i < k + 1 + length p) → (t : Bool) → cond t (some k) (firstFrom crossed (k + 1) p) ≡ some i → i < k + length (x ∷ p)
     go rest true e = omega (arith, taken k i e)
     go rest false e = omega (arith, rest e)
 
-filing-length : (p : ℕ) (s : List ℕ) → p < 256 → countIn s < 65536 → length (filingLine p (filingOf p s)) ≤ 42
+filing-length : (p : ℕ) (s : List ℕ) → p < 256 → countIn s < 65536 → length (filingLine p (filingOf p s)) ≤ 44
 filing-length p s h g =
     first-has P (refuse (badParty p) Party ∷ sizes) (accepted (countIn s ∷ []))
     (each-refuse P (badParty p) Party sizes (plain Party (omega arith) (omega arith))
     (each-refuse P (missized s) Missized versions (plain Missized (omega arith) (omega arith))
     (each-refuse P (badVersion s) Version counts (plain Version (omega arith) (omega arith))
     (each-refuse P (badCount s filedLimit) Count entries (plain Count (omega arith) (omega arith))
-    (each-entry P (firstCrossed (listIn s)) gaps (λ i e. plain (Crossed i) (omega arith) (entry-length i (below (crossed-within 0 (listIn s) i e) (length-entries s headSize (countIn s)) g)))
+    (each-entry P (firstCrossed (listIn s)) gaps (λ i e. plain (Crossed i) (omega arith) (entry-length i (below (crossed-within 0 (listIn s) i e) (length-entries s 0 (countIn s)) g)))
     (each-header P Gap (gapOf (listIn s)) [] (λ h. plain (Gap h) (omega arith) (omega arith)) tt))))))
     (filed-length p (countIn s) h g)
   where
@@ -135,10 +135,10 @@ filing-length p s h g =
     sizes = refuse (missized s) Missized ∷ versions
 
     P : Answer → Type 0
-    P a = length (filingLine p a) ≤ 42
+    P a = length (filingLine p a) ≤ 44
 
-    plain : (r : Refusal) → refusal r .number < 12 → length (detail (refusal r)) ≤ 27 → length (filingLine p (refusal r)) ≤ 42
-    plain r n d = subst (λ (l : List ℕ). length l ≤ 42) (line-refused p r) (refused-length p (refusal r) h n d)
+    plain : (r : Refusal) → refusal r .number < 12 → length (detail (refusal r)) ≤ 29 → length (filingLine p (refusal r)) ≤ 44
+    plain r n d = subst (λ (l : List ℕ). length l ≤ 44) (line-refused p r) (refused-length p (refusal r) h n d)
 
     below : {i n m : ℕ} → i < 0 + n → n ≡ m → m < 65536 → i < 65536
     below a b c = omega arith
@@ -162,7 +162,7 @@ none-filed : (k : ℕ) → filingLines (filingsIn k []) ≡ []
 none-filed zero = refl
 none-filed (suc k) = refl
 
-filings-length : (k : ℕ) (s : List ℕ) → Bytes s → length (filingLines (filingsIn k s)) ≤ 14 * length s + 42
+filings-length : (k : ℕ) (s : List ℕ) → Bytes s → length (filingLines (filingsIn k s)) ≤ 15 * length s + 44
 filings-length zero s b = omega arith
 filings-length (suc k) [] b = omega arith
 filings-length (suc k) (p ∷ s) b = go (filings-length k (drop (fileRun s) s) (bytes-drop (fileRun s) s bytes)) (ltb (length s) 2) refl
@@ -170,11 +170,11 @@ filings-length (suc k) (p ∷ s) b = go (filings-length k (drop (fileRun s) s) (
     bytes : Bytes s
     bytes i = b (suc i)
 
-    here : length (filingLine p (filingOf p (take (fileRun s) s))) ≤ 42
+    here : length (filingLine p (filingOf p (take (fileRun s) s))) ≤ 44
     here = filing-length p (take (fileRun s) s) (b 0) (count-below (take (fileRun s) s) (bytes-take (fileRun s) s bytes))
 
-    go : length (filingLines (filingsIn k (drop (fileRun s) s))) ≤ 14 * length (drop (fileRun s) s) + 42 → (t : Bool) → ltb (length s) 2 ≡ t
-        → length (filingLine p (filingOf p (take (fileRun s) s)) ++ filingLines (filingsIn k (drop (fileRun s) s))) ≤ 14 * length (p ∷ s) + 42
+    go : length (filingLines (filingsIn k (drop (fileRun s) s))) ≤ 15 * length (drop (fileRun s) s) + 44 → (t : Bool) → ltb (length s) 2 ≡ t
+        → length (filingLine p (filingOf p (take (fileRun s) s)) ++ filingLines (filingsIn k (drop (fileRun s) s))) ≤ 15 * length (p ∷ s) + 44
     go rest true e = simp length-append (omega (arith, here, ap length (ap (λ (l : List ℕ). filingLines (filingsIn k l)) (all (fileRun s) (omega (arith, ltb-true (length s) 2 e))) ∙ none-filed k)))
       where
         all : (n : ℕ) → length s ≤ n → drop n s ≡ []
@@ -183,31 +183,31 @@ filings-length (suc k) (p ∷ s) b = go (filings-length k (drop (fileRun s) s) (
 
 -- ---- the lines of the merging
 
-records-length : (n : ℕ) (s : List ℕ) → length (recordLines n s) ≤ 57 * n
+records-length : (n : ℕ) (s : List ℕ) → length (recordLines n s) ≤ 61 * n
 records-length zero s = omega arith
 records-length (suc n) s =
-    simp length-append (omega (arith, records-length n (drop recordSize s), hex-length (take recordSize s), length-take recordSize s))
+    simp length-append (omega (arith, records-length n (drop (recordSize mergedVersion) s), hex-length (take (recordSize mergedVersion) s), length-take (recordSize mergedVersion) s))
 
-merged-length : (n : ℕ) (file : List ℕ) → n ≤ listLimit → length (mergingLines (accepted (n ∷ fileSize n ∷ []), file)) ≤ 14603
+merged-length : (n : ℕ) (file : List ℕ) → n ≤ listLimit → length (mergingLines (accepted (n ∷ fileSize mergedVersion n ∷ []), file)) ≤ 15627
 merged-length n file h = simp length-append (omega (arith, digits-within 2 n (omega arith), records-length n (drop headSize file)))
 
-merging-length : (buffer : List ℕ) → length buffer ≡ fileSize listLimit → (ps : List (List Entry)) → length (mergingLines (endingOf (mergeOf headers ps) buffer)) ≤ 14603
+merging-length : (buffer : List ℕ) → length buffer ≡ fileSize mergedVersion listLimit → (ps : List (List Entry)) → length (mergingLines (endingOf (mergeOf headers ps) buffer)) ≤ 15627
 merging-length buffer e ps =
-    merging-cases headers ps (λ r. length (mergingLines (endingOf r buffer)) ≤ 14603)
+    merging-cases headers ps (λ r. length (mergingLines (endingOf r buffer)) ≤ 15627)
     (omega (arith, refused-length 0 (refusal Bare) (omega arith) (omega arith) (omega arith)))
     (omega (arith, refused-length 0 (refusal Crowded) (omega arith) (omega arith) (omega arith)))
     (λ h. omega (arith, refused-length 0 (refusal (Conflict h)) (omega arith) (omega arith) (omega arith)))
-    λ m. go m (ltb (length buffer) (fileSize (length m))) refl
+    λ m. go m (ltb (length buffer) (fileSize mergedVersion (length m))) refl
   where
     written : List Entry → Bool → Answer
-    written m t = firstOf (refuse t (Narrow (fileSize (length m))) ∷ []) (accepted (length m ∷ fileSize (length m) ∷ []))
+    written m t = firstOf (refuse t (Narrow (fileSize mergedVersion (length m))) ∷ []) (accepted (length m ∷ fileSize mergedVersion (length m) ∷ []))
 
-    go : (m : List Entry) (t : Bool) → ltb (length buffer) (fileSize (length m)) ≡ t
-        → length (mergingLines (written m t, ifAccepted (written m t) (placed (fileOf m) buffer) buffer)) ≤ 14603
-    go m true t = omega (arith, refused-length 0 (refusal (Narrow (fileSize (length m)))) (omega arith) (omega arith) (omega arith))
-    go m false t = merged-length (length m) (placed (fileOf m) buffer) (few (length m) (length buffer) e (ltb-false (length buffer) (fileSize (length m)) t))
+    go : (m : List Entry) (t : Bool) → ltb (length buffer) (fileSize mergedVersion (length m)) ≡ t
+        → length (mergingLines (written m t, ifAccepted (written m t) (placed (fileOf mergedVersion m) buffer) buffer)) ≤ 15627
+    go m true t = omega (arith, refused-length 0 (refusal (Narrow (fileSize mergedVersion (length m)))) (omega arith) (omega arith) (omega arith))
+    go m false t = merged-length (length m) (placed (fileOf mergedVersion m) buffer) (few (length m) (length buffer) e (ltb-false (length buffer) (fileSize mergedVersion (length m)) t))
       where
-        few : (n l : ℕ) → l ≡ fileSize listLimit → fileSize n ≤ l → n ≤ listLimit
+        few : (n l : ℕ) → l ≡ fileSize mergedVersion listLimit → fileSize mergedVersion n ≤ l → n ≤ listLimit
         few n l e h = omega arith
 
 -- ---- the report
@@ -223,4 +223,4 @@ report-fits input b = go (ltb inputLimit (length input)) refl
     go true t = omega arith
     go false t =
         simp length-append
-        (omega (arith, filings-length (length input) input b, merging-length mergeBuffer (length-replicate {A = ℕ} (fileSize listLimit) 0) (inForce book), ltb-false inputLimit (length input) t))
+        (omega (arith, filings-length (length input) input b, merging-length mergeBuffer (length-replicate {A = ℕ} (fileSize mergedVersion listLimit) 0) (inForce book), ltb-false inputLimit (length input) t))

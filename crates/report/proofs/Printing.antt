@@ -12,7 +12,7 @@ use Rattle.policy.specs.declared.refusal.Refusal.the-variants.{Narrow}
 use Rattle.policy.specs.Header.{headers}
 use Rattle.policy.specs.Refusals.{Answer, refusal, accepted, refuse, firstOf}
 use Rattle.policy.proofs.Refusals.{refusal-refuses}
-use Rattle.wire.specs.Format.{Bytes, headSize, listLimit, fileSize, countIn, recordOf, recordsOf, fileOf}
+use Rattle.wire.specs.Format.{Bytes, mergedVersion, headSize, listLimit, fileSize, countIn, recordOf, recordsOf, fileOf}
 use Rattle.wire.specs.Answers.{ifAccepted}
 use Rattle.wire.specs.Writing.{placed}
 use Rattle.wire.proofs.Records.{entries-fit}
@@ -36,29 +36,29 @@ use Rattle.report.proofs.Length.{bytes-take, bytes-drop}
 
 abbrev pub listLines : List Entry → List ℕ
 listLines [] = []
-listLines (e ∷ m) = hex (recordOf e) ++ ascii "\n" ++ listLines m
+listLines (e ∷ m) = hex (recordOf mergedVersion e) ++ ascii "\n" ++ listLines m
 
 abbrev pub outcomeLines : Merging → List ℕ
 outcomeLines (refused r) = refusedLine 0 (refusal r)
 outcomeLines (merged m) = ascii "merged " ++ decimal (length m) ++ ascii "\n" ++ listLines m
 
 -- the lines of a file's records are those of its list
-records-are : (m : List Entry) (rest : List ℕ) → recordLines (length m) (recordsOf m ++ rest) ≡ listLines m
+records-are : (m : List Entry) (rest : List ℕ) → recordLines (length m) (recordsOf mergedVersion m ++ rest) ≡ listLines m
 records-are [] rest = refl
-records-are (e ∷ m) rest = ap (λ (l : List ℕ). hex (recordOf e) ++ ascii "\n" ++ l) (records-are m rest)
+records-are (e ∷ m) rest = ap (λ (l : List ℕ). hex (recordOf mergedVersion e) ++ ascii "\n" ++ l) (records-are m rest)
 
 -- a merged list is never too long for the buffer
-module _ (buffer : List ℕ) (size : length buffer ≡ fileSize listLimit) where
+module _ (buffer : List ℕ) (size : length buffer ≡ fileSize mergedVersion listLimit) where
   merged-lines : (m : List Entry) → length m ≤ listLimit → mergingLines (endingOf (merged m) buffer) ≡ outcomeLines (merged m)
   merged-lines m few =
-      ap (λ (t : Bool). mergingLines (written t, ifAccepted (written t) (placed (fileOf m) buffer) buffer))
-      (le-ltb (length buffer) (fileSize (length m)) (fits (length m) (length buffer) few size))
-      ∙ ap (λ (l : List ℕ). ascii "merged " ++ decimal (length m) ++ ascii "\n" ++ l) (records-are m (drop (length (fileOf m)) buffer))
+      ap (λ (t : Bool). mergingLines (written t, ifAccepted (written t) (placed (fileOf mergedVersion m) buffer) buffer))
+      (le-ltb (length buffer) (fileSize mergedVersion (length m)) (fits (length m) (length buffer) few size))
+      ∙ ap (λ (l : List ℕ). ascii "merged " ++ decimal (length m) ++ ascii "\n" ++ l) (records-are m (drop (length (fileOf mergedVersion m)) buffer))
     where
       written : Bool → Answer
-      written t = firstOf (refuse t (Narrow (fileSize (length m))) ∷ []) (accepted (length m ∷ fileSize (length m) ∷ []))
+      written t = firstOf (refuse t (Narrow (fileSize mergedVersion (length m))) ∷ []) (accepted (length m ∷ fileSize mergedVersion (length m) ∷ []))
 
-      fits : (n l : ℕ) → n ≤ listLimit → l ≡ fileSize listLimit → fileSize n ≤ l
+      fits : (n l : ℕ) → n ≤ listLimit → l ≡ fileSize mergedVersion listLimit → fileSize mergedVersion n ≤ l
       fits n l h e = omega arith
 
   outcome-lines : (r : Merging) → ((m : List Entry) → r ≡ merged m → length m ≤ listLimit) → mergingLines (endingOf r buffer) ≡ outcomeLines r
@@ -83,7 +83,7 @@ unfolding reportOf
 printed input h =
     ap (λ (t : Bool). cond t (ascii "input too long\n") (linesOf (filingsOf input))) (le-ltb inputLimit (length input) h)
     ∙ ap (λ (l : List ℕ). filingLines (filingsOf input) ++ l)
-    (outcome-lines mergeBuffer (length-replicate {A = ℕ} (fileSize listLimit) 0) (mergeOf headers (inForceAfter input)) (few-merged (inForceAfter input)))
+    (outcome-lines mergeBuffer (length-replicate {A = ℕ} (fileSize mergedVersion listLimit) 0) (mergeOf headers (inForceAfter input)) (few-merged (inForceAfter input)))
 
 -- the records printed are those of the merged list: it allows each header exactly the common actions, is the widest such list, and nothing in it can be struck
 pub printed-list : (input : List ℕ) (m : List Entry) → mergeOf headers (inForceAfter input) ≡ merged m → MergedList (inForceAfter input) m (length m)
@@ -110,4 +110,4 @@ pub printed-keeps : (input : List ℕ) → Bytes input
 unfolding filingsOf
 printed-keeps input b =
     demand-3 mergeBuffer (inForceAfter input) (all-covering (filingsOf input))
-    (reads-back (inForceAfter input) (all-in-force-of AllFit (λ p s c f. entries-fit s headSize (countIn s) c) (filingsOf input) (all-bytes (length input) input b)))
+    (reads-back (inForceAfter input) (all-in-force-of AllFit (λ p s c f. entries-fit s 0 (countIn s) c) (filingsOf input) (all-bytes (length input) input b)))

@@ -5,7 +5,7 @@ use mathlib.Core.List.{List, [], _∷_, _++_}
 use lib.Dec.{ltb, eqb}
 use lib.ListN.{length, getD, take, drop, replicate}
 use Rattle.policy.specs.Refusals.{Answer, isAccepted}
-use Rattle.wire.specs.Format.{headSize, recordSize, listLimit, fileSize, lengthIn, headerBytes}
+use Rattle.wire.specs.Format.{mergedVersion, headSize, recordSize, listLimit, fileSize, lengthIn, headerBytes}
 use Rattle.bench.specs.Answers.{filingOf, mergingOf}
 use Rattle.bench.specs.Calls.{Call, filing, withdrawal, merging, installing, bookAfter}
 use Rattle.report.specs.Text.{ascii, decimal, hex}
@@ -32,7 +32,7 @@ filingsOf input = filingsIn (length input) input
 
 -- ---- the lines
 
--- after 4 follows, past one space, the entry number; after 5 and 10 likewise the header as 26 hexadecimal digits
+-- after 4 follows, past one space, the entry number; after 5 and 10 likewise the header as 28 hexadecimal digits
 abbrev pub detail : Answer → List ℕ
 detail a =
     cond (eqb (a .number) 4) (ascii " " ++ decimal (getD (a .values) 0 0))
@@ -56,10 +56,10 @@ filingLines (withdrawal p ∷ cs) = filingLines cs
 filingLines (merging b ∷ cs) = filingLines cs
 filingLines (installing k b ∷ cs) = filingLines cs
 
--- n records, each on its own line
+-- n records of a merged file, each on its own line
 abbrev pub recordLines : ℕ → List ℕ → List ℕ
 recordLines zero s = []
-recordLines (suc n) s = hex (take recordSize s) ++ ascii "\n" ++ recordLines n (drop recordSize s)
+recordLines (suc n) s = hex (take (recordSize mergedVersion) s) ++ ascii "\n" ++ recordLines n (drop (recordSize mergedVersion) s)
 
 -- `merged N` and each record of the file in the buffer, or `refused 0 R`
 abbrev pub mergingLines : Answer × List ℕ → List ℕ
@@ -72,7 +72,7 @@ mergingLines r =
 
 -- the buffer of the merging, as long as the longest file
 abbrev pub mergeBuffer : List ℕ
-mergeBuffer = replicate (fileSize listLimit) 0
+mergeBuffer = replicate (fileSize mergedVersion listLimit) 0
 
 -- the lines of a list of filings, then of one merging
 abbrev pub linesOf : List Call → List ℕ
@@ -81,6 +81,6 @@ linesOf cs = filingLines cs ++ mergingLines (mergingOf (bookAfter cs) mergeBuffe
 unfoldable pub reportOf : List ℕ → List ℕ
 reportOf input = cond (ltb inputLimit (length input)) (ascii "input too long\n") (linesOf (filingsOf input))
 
--- no report is longer: 14 bytes for each byte of input, a line more of 42, and the lines of 256 records
+-- no report is longer: 15 bytes for each byte of input, a line more of 44, and the lines of 256 records
 abbrev pub reportSize : ℕ
-reportSize = 14 * inputLimit + 42 + 14603
+reportSize = 15 * inputLimit + 44 + 15627

@@ -3,18 +3,13 @@ use crate::line::put_refused;
 use crate::merged::put_merged;
 use bench::calls::Bench;
 use bench::calls::MergeAnswer;
-use wire::format::HEAD_SIZE;
-use wire::format::LIST_LIMIT;
-use wire::format::RECORD_SIZE;
+use wire::format::FILE_SIZE;
 ghost use Prim.Native.Nat.{_≤_};
 ghost use lib.ListN.{length};
 ghost use Rattle.bench.specs.Answers.{mergingOf};
 ghost use Rattle.bench.specs.Held.{bookOf};
 ghost use Rattle.report.specs.steps.Printed.{Printed};
 ghost use Rattle.report.specs.Report.{mergingLines, mergeBuffer};
-
-// The length of the longest file.
-const FILE_SIZE: usize = HEAD_SIZE + RECORD_SIZE * LIST_LIMIT;
 
 pub(crate) fn put_merging(out: &mut [u8], at: usize, bench: Bench) -> usize
     requires { ⌜ at ≤ length (now out) ⌝ }

@@ -16,12 +16,13 @@ use Rattle.policy.specs.declared.refusal.Refusal.the-variants.{Missized, Versio
 use Rattle.policy.specs.Refusals.{Answer, refusal, accepted, refuse, firstOf}
 use Rattle.policy.specs.Entry.{crossed}
 use Rattle.policy.proofs.Bool.{not-false, clash, or-left, or-right}
-use Rattle.wire.specs.Format.{version, headSize, recordSize, lengthIn, versionIn, countIn, entryAt, entriesFrom}
+use Rattle.wire.specs.Format.{isVersion, headSize, recordSize, lengthIn, versionIn, countIn, placeIn, entryAt, entriesFrom}
 use Rattle.wire.specs.Lists.{emptyEntry}
 use Rattle.policy.proofs.Refusals.{Refuse, refusal-clash}
 use Rattle.wire.proofs.CountCheck.{compared-as-divided}
-use Rattle.wire.proofs.Entries.{length-entries, entries-at}
-use Rattle.wire.specs.Checks.{missized, badVersion, outside, badCount, firstCrossedFrom, firstCrossed, refuseEntry, checksOf}
+use Rattle.wire.proofs.Entries.{length-entries, first-at}
+use Rattle.wire.proofs.Sizes.{size-least}
+use Rattle.wire.specs.Checks.{missized, badVersion, outside, badCount, firstFrom, refuseEntry, checksOf}
 use Rattle.wire.specs.steps.Crossed.{crossedOf}
 
 -- an `or` that is false
@@ -63,47 +64,47 @@ module _ (s : List ℕ) where
     eqb-true (length s) (lengthIn s + 2) (not-false (or-false-right (ltb (length s) headSize) _ e)),
   )
 
-  pub other-version : (versionIn s ≡ version → ⊥) → badVersion s ≡ true
-  other-version p = ap not (ne-eqb (versionIn s) version p)
+  pub other-version : (t : Bool) → t ≡ isVersion (versionIn s) → not t ≡ true → badVersion s ≡ true
+  other-version t e n = ap not (sym e) ∙ n
 
-  pub right-version : versionIn s ≡ version → badVersion s ≡ false
-  right-version p = ap not (eq-eqb (versionIn s) version p)
+  pub right-version : (t : Bool) → t ≡ isVersion (versionIn s) → not t ≡ false → badVersion s ≡ false
+  right-version t e n = ap not (sym e) ∙ n
 
   -- check 3
-  by-comparing : (limit : ℕ) → badCount s limit ≡ (outside limit (countIn s) || not (eqb (lengthIn s - 3) (recordSize * countIn s)))
-  by-comparing limit = ap (outside limit (countIn s) ||_) (sym (compared-as-divided recordSize (omega arith) (lengthIn s) (countIn s)))
+  by-comparing : (limit : ℕ) → badCount s limit ≡ (outside limit (countIn s) || not (eqb (lengthIn s - 3) (recordSize (versionIn s) * countIn s)))
+  by-comparing limit = ap (outside limit (countIn s) ||_) (sym (compared-as-divided (recordSize (versionIn s)) (omega (arith, size-least (versionIn s))) (lengthIn s) (countIn s)))
 
   pub bad-limits : (limit : ℕ) → outside limit (countIn s) ≡ true → badCount s limit ≡ true
   bad-limits limit p = or-left _ _ p
 
-  pub counted : (limit : ℕ) → outside limit (countIn s) ≡ false → lengthIn s - 3 ≡ recordSize * countIn s → badCount s limit ≡ false
-  counted limit p q = by-comparing limit ∙ rw (p, eq-eqb (lengthIn s - 3) (recordSize * countIn s) q)
+  pub counted : (limit : ℕ) → outside limit (countIn s) ≡ false → lengthIn s - 3 ≡ recordSize (versionIn s) * countIn s → badCount s limit ≡ false
+  counted limit p q = by-comparing limit ∙ rw (p, eq-eqb (lengthIn s - 3) (recordSize (versionIn s) * countIn s) q)
 
-  pub count-told : (limit : ℕ) → badCount s limit ≡ false → (outside limit (countIn s) ≡ false) × (lengthIn s - 3 ≡ recordSize * countIn s)
+  pub count-told : (limit : ℕ) → badCount s limit ≡ false → (outside limit (countIn s) ≡ false) × (lengthIn s - 3 ≡ recordSize (versionIn s) * countIn s)
   count-told limit e =
       let t = sym (by-comparing limit) ∙ e in (
         or-false-left _ _ t,
-        eqb-true (lengthIn s - 3) (recordSize * countIn s) (not-false (or-false-right (outside limit (countIn s)) _ t)),
+        eqb-true (lengthIn s - 3) (recordSize (versionIn s) * countIn s) (not-false (or-false-right (outside limit (countIn s)) _ t)),
       )
 
-  pub miscounted : (limit : ℕ) → (lengthIn s - 3 ≡ recordSize * countIn s → ⊥) → badCount s limit ≡ true
-  miscounted limit p = by-comparing limit ∙ or-right (outside limit (countIn s)) _ (ap not (ne-eqb (lengthIn s - 3) (recordSize * countIn s) p))
+  pub miscounted : (limit : ℕ) → (lengthIn s - 3 ≡ recordSize (versionIn s) * countIn s → ⊥) → badCount s limit ≡ true
+  miscounted limit p = by-comparing limit ∙ or-right (outside limit (countIn s)) _ (ap not (ne-eqb (lengthIn s - 3) (recordSize (versionIn s) * countIn s) p))
 
--- check 4, entry by entry: no entry before i is crossed, so the first crossed one is the first among those from i on
-abbrev pub Scanned : List Entry → ℕ → Type 0
-Scanned p i = firstCrossed p ≡ firstCrossedFrom i (drop i p)
+-- check 4, entry by entry: no entry before i has the property, so the first that does is the first among those from i on
+abbrev pub Scanned : (Entry → Bool) → List Entry → ℕ → Type 0
+Scanned P p i = firstFrom P 0 p ≡ firstFrom P i (drop i p)
 
-module _ (p : List Entry) (i : ℕ) (d : Entry) (l : i < length p) (h : Scanned p i) where
-  scanned-here : firstCrossed p ≡ cond (crossed (getD p i d)) (some i) (firstCrossedFrom (i + 1) (drop (i + 1) p))
+module _ (P : Entry → Bool) (p : List Entry) (i : ℕ) (d : Entry) (l : i < length p) (h : Scanned P p i) where
+  scanned-here : firstFrom P 0 p ≡ cond (P (getD p i d)) (some i) (firstFrom P (i + 1) (drop (i + 1) p))
   scanned-here =
-      h ∙ ap (firstCrossedFrom i) (drop-cons p i d l)
-      ∙ ap (λ (k : ℕ). cond (crossed (getD p i d)) (some i) (firstCrossedFrom (i + 1) (drop k p))) (sym (add-one i))
+      h ∙ ap (firstFrom P i) (drop-cons p i d l)
+      ∙ ap (λ (k : ℕ). cond (P (getD p i d)) (some i) (firstFrom P (i + 1) (drop k p))) (sym (add-one i))
 
-  pub scanned-crossed : (n : ℕ) → crossed (getD p i d) ≡ true → refusal (Crossed i) ≡ crossedOf p n
+  pub scanned-crossed : (n : ℕ) → P (getD p i d) ≡ true → refusal (Crossed i) ≡ crossedOf P p n
   scanned-crossed n e = rw (scanned-here, e)
 
-  pub scanned-next : crossed (getD p i d) ≡ false → Scanned p (i + 1)
-  scanned-next e = scanned-here ∙ ap (λ (t : Bool). cond t (some i) (firstCrossedFrom (i + 1) (drop (i + 1) p))) e
+  pub scanned-next : P (getD p i d) ≡ false → Scanned P p (i + 1)
+  scanned-next e = scanned-here ∙ ap (λ (t : Bool). cond t (some i) (firstFrom P (i + 1) (drop (i + 1) p))) e
 
 -- check 4 as one of a list of checks: what it answers is no acceptance
 pub entry-refuses : (o : Option ℕ) (rs : List (Option Answer)) → Refuse rs → Refuse (refuseEntry Crossed o ∷ rs)
@@ -116,32 +117,32 @@ entry-not-refused (some i) rs a vs e = refusal-clash (Crossed i) vs (sym e)
 entry-not-refused none rs a vs e = (refl, e)
 
 -- no entry is crossed
-pub crossed-none : (p : List Entry) (n : ℕ) → firstCrossed p ≡ none → accepted (n ∷ []) ≡ crossedOf p n
-crossed-none p n e = rw e
+pub crossed-none : (P : Entry → Bool) (p : List Entry) (n : ℕ) → firstFrom P 0 p ≡ none → accepted (n ∷ []) ≡ crossedOf P p n
+crossed-none P p n e = rw e
 
-pub scanned-all : (p : List Entry) (n i : ℕ) → length p ≤ i → Scanned p i → accepted (n ∷ []) ≡ crossedOf p n
-scanned-all p n i l h = crossed-none p n (h ∙ ap (firstCrossedFrom i) (drop-of-length-le p l))
+pub scanned-all : (P : Entry → Bool) (p : List Entry) (n i : ℕ) → length p ≤ i → Scanned P p i → accepted (n ∷ []) ≡ crossedOf P p n
+scanned-all P p n i l h = crossed-none P p n (h ∙ ap (firstFrom P i) (drop-of-length-le p l))
 
--- the same of the n records of a file: record number i was read and tested
+-- the same of the n records of a file: record number i was tested
 module _ (s : List ℕ) (n i : ℕ) where
   abbrev list : List Entry
-  list = entriesFrom s headSize n
+  list = entriesFrom s 0 n
 
-  module _ (e : Entry) (t : Bool) (l : i < n) (h : Scanned list i) (g : e ≡ entryAt s (headSize + recordSize * i)) (q : t ≡ crossed e) where
+  module _ (at : ℕ) (t : Bool) (l : i < n) (h : Scanned crossed list i) (g : at ≡ placeIn s i) (q : t ≡ crossed (entryAt (versionIn s) s at)) where
     more : i < length list
-    more = let k = length-entries s headSize n in omega arith
+    more = let k = length-entries s 0 n in omega arith
 
     tested : crossed (getD list i emptyEntry) ≡ t
-    tested = ap crossed (entries-at s headSize n i emptyEntry l ∙ sym g) ∙ sym q
+    tested = ap crossed (first-at s n i emptyEntry l ∙ ap (entryAt (versionIn s) s) (sym g)) ∙ sym q
 
-    pub record-crossed : t ≡ true → refusal (Crossed i) ≡ crossedOf list n
-    record-crossed r = scanned-crossed list i emptyEntry more h n (tested ∙ r)
+    pub record-crossed : t ≡ true → refusal (Crossed i) ≡ crossedOf crossed list n
+    record-crossed r = scanned-crossed crossed list i emptyEntry more h n (tested ∙ r)
 
-    pub record-passed : t ≡ false → Scanned list (i + 1)
-    record-passed r = scanned-next list i emptyEntry more h (tested ∙ r)
+    pub record-passed : t ≡ false → Scanned crossed list (i + 1)
+    record-passed r = scanned-next crossed list i emptyEntry more h (tested ∙ r)
 
-  pub records-passed : n ≤ i → Scanned list i → accepted (n ∷ []) ≡ crossedOf list n
-  records-passed l h = scanned-all list n i (let k = length-entries s headSize n in omega arith) h
+  pub records-passed : n ≤ i → Scanned crossed list i → accepted (n ∷ []) ≡ crossedOf crossed list n
+  records-passed l h = scanned-all crossed list n i (let k = length-entries s 0 n in omega arith) h
 
 -- the answer of the checks, by the first that refuses
 module _ (s : List ℕ) (limit : ℕ) where
@@ -155,5 +156,5 @@ module _ (s : List ℕ) (limit : ℕ) where
   has-count p q r = rw (p, q, r)
 
   pub by-entries : missized s ≡ false → badVersion s ≡ false → badCount s limit ≡ false
-      → (n : ℕ) (a : Answer) → n ≡ countIn s → a ≡ crossedOf (entriesFrom s headSize n) n → a ≡ checksOf s limit
-  by-entries p q r n a e h = h ∙ ap (λ (m : ℕ). crossedOf (entriesFrom s headSize m) m) e ∙ rw (p, q, r)
+      → (n : ℕ) (a : Answer) → n ≡ countIn s → a ≡ crossedOf crossed (entriesFrom s 0 n) n → a ≡ checksOf s limit
+  by-entries p q r n a e h = h ∙ ap (λ (m : ℕ). crossedOf crossed (entriesFrom s 0 m) m) e ∙ rw (p, q, r)

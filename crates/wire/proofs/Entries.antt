@@ -1,25 +1,29 @@
--- The records of a slice of bytes, as entries.
+-- The records of a file, as entries.
 -- Assumes nothing.
-use Prim.Native.Nat.{ℕ, zero, suc, _+_, _*_, _<_}
+use Prim.Native.Nat.{ℕ, zero, suc, _+_, _*_, _-_, _<_}
 use native.Mathlib.Omega.{arith}
 use mathlib.Core.Path.{_≡_, refl, sym, _∙_, ap, ap₂}
+use mathlib.Core.Bool.{Bool, true, false, cond}
 use mathlib.Core.List.{List, _∷_, _++_}
-use native.Mathlib.Nat.{zero-add, add-zero, suc-add, add-assoc}
-use lib.ListN.{length, getD, drop}
-use lib.Seq.{getD-drop, getD-append-add}
+use native.Mathlib.Nat.{zero-add, add-zero, suc-add}
+use lib.Dec.{eqb}
+use lib.ListN.{length, getD}
 use Rattle.policy.specs.declared.entry.Entry.{Entry}
-use Rattle.wire.specs.Format.{recordSize, number2, number4, entryAt, entriesFrom}
+use Rattle.policy.specs.Box.{range}
+use Rattle.wire.specs.Format.{recordSize, fileSize, versionIn, number2, number4, directionsAt, entryAt, entriesAs, entriesFrom}
+use Rattle.wire.specs.steps.Numbered.{entryIn}
+use Rattle.wire.proofs.Sizes.{size-least}
 
 -- two slices that agree on the bytes of a record, which start at a in s and at b in t, have the same entry there
-module _ (s t : List ℕ) (a b : ℕ) (f : (i : ℕ) → i < recordSize → getD s (a + i) 0 ≡ getD t (b + i) 0) where
-  same-byte : (i x y : ℕ) → i < recordSize → x ≡ a + i → y ≡ b + i → getD s x 0 ≡ getD t y 0
+module _ (v : ℕ) (s t : List ℕ) (a b : ℕ) (f : (i : ℕ) → i < recordSize v → getD s (a + i) 0 ≡ getD t (b + i) 0) where
+  same-byte : (i x y : ℕ) → i < recordSize v → x ≡ a + i → y ≡ b + i → getD s x 0 ≡ getD t y 0
   same-byte i x y l p q = ap (λ (k : ℕ). getD s k 0) p ∙ f i l ∙ sym (ap (λ (k : ℕ). getD t k 0) q)
 
-  same-number2 : (i x y : ℕ) → i + 1 < recordSize → x ≡ a + i → y ≡ b + i → number2 s x ≡ number2 t y
+  same-number2 : (i x y : ℕ) → i + 1 < recordSize v → x ≡ a + i → y ≡ b + i → number2 s x ≡ number2 t y
   same-number2 i x y l p q =
       ap₂ (λ (m n : ℕ). m * 256 + n) (same-byte i x y (omega arith) p q) (same-byte (i + 1) (x + 1) (y + 1) l (omega arith) (omega arith))
 
-  same-number4 : (i x y : ℕ) → i + 3 < recordSize → x ≡ a + i → y ≡ b + i → number4 s x ≡ number4 t y
+  same-number4 : (i x y : ℕ) → i + 3 < recordSize v → x ≡ a + i → y ≡ b + i → number4 s x ≡ number4 t y
   same-number4 i x y l p q =
       ap₂ (λ (m n : ℕ). m * 256 + n)
       (ap₂ (λ (m n : ℕ). m * 256 + n)
@@ -27,8 +31,14 @@ module _ (s t : List ℕ) (a b : ℕ) (f : (i : ℕ) → i < recordSize → getD
       (same-byte (i + 2) (x + 2) (y + 2) (omega arith) (omega arith) (omega arith)))
       (same-byte (i + 3) (x + 3) (y + 3) l (omega arith) (omega arith))
 
-  pub same-entry : entryAt s a ≡ entryAt t b
+  same-directions : (c : Bool) → ((i : ℕ) → i < cond c 28 30 → getD s (a + i) 0 ≡ getD t (b + i) 0)
+      → cond c (range 0 1) (range (getD s (a + 26) 0) (getD s (a + 27) 0)) ≡ cond c (range 0 1) (range (getD t (b + 26) 0) (getD t (b + 27) 0))
+  same-directions true g = refl
+  same-directions false g = λ i. range (g 26 (omega arith) i) (g 27 (omega arith) i)
+
+  pub same-entry : entryAt v s a ≡ entryAt v t b
   same-entry =
+      let long = size-least v in
       let p0 = same-number4 0 a b (omega arith) (omega arith) (omega arith) in
       let p1 = same-number4 4 (a + 4) (b + 4) (omega arith) refl refl in
       let p2 = same-number4 8 (a + 8) (b + 8) (omega arith) refl refl in
@@ -39,7 +49,8 @@ module _ (s t : List ℕ) (a b : ℕ) (f : (i : ℕ) → i < recordSize → getD
       let p7 = same-number2 22 (a + 22) (b + 22) (omega arith) refl refl in
       let p8 = f 24 (omega arith) in
       let p9 = f 25 (omega arith) in
-      let p10 = same-number2 26 (a + 26) (b + 26) (omega arith) refl refl in
+      let p10 : directionsAt v s a ≡ directionsAt v t b = same-directions (eqb v 1) f in
+      let p11 = same-number2 (recordSize v - 2) (a + (recordSize v - 2)) (b + (recordSize v - 2)) (omega arith) refl refl in
       λ i. record {
         «local_low» = p0 i;
         «local_high» = p1 i;
@@ -51,53 +62,55 @@ module _ (s t : List ℕ) (a b : ℕ) (f : (i : ℕ) → i < recordSize → getD
         «remote_port_high» = p7 i;
         «protocol_low» = p8 i;
         «protocol_high» = p9 i;
-        actions = p10 i;
+        «direction_low» = p10 i .low;
+        «direction_high» = p10 i .high;
+        actions = p11 i;
       }
 
--- so too for n records
-pub same-entries : (s t : List ℕ) (a b n : ℕ) → ((i : ℕ) → i < recordSize * n → getD s (a + i) 0 ≡ getD t (b + i) 0) → entriesFrom s a n ≡ entriesFrom t b n
-same-entries s t a b zero f = refl
-same-entries s t a b (suc n) f =
-    ap₂ (_∷_) (same-entry s t a b (λ i l. f i (first-of i n l)))
-    (same-entries s t (a + recordSize) (b + recordSize) n λ i l. ap (λ (k : ℕ). getD s k 0) (after a i) ∙ f (recordSize + i) (omega arith) ∙ sym (ap (λ (k : ℕ). getD t k 0) (after b i)))
-  where
-    first-of : (i n : ℕ) → i < recordSize → i < recordSize * suc n
-    first-of i n l = omega arith
+-- ---- n entries from number i on, of any version
 
-    after : (a i : ℕ) → a + recordSize + i ≡ a + (recordSize + i)
-    after a i = omega arith
-
-pub length-entries : (s : List ℕ) (at n : ℕ) → length (entriesFrom s at n) ≡ n
-length-entries s at zero = refl
-length-entries s at (suc n) = ap suc (length-entries s (at + recordSize) n)
+length-as : (v : ℕ) (s : List ℕ) (i n : ℕ) → length (entriesAs v s i n) ≡ n
+length-as v s i zero = refl
+length-as v s i (suc n) = ap suc (length-as v s (i + 1) n)
 
 -- the k-th of them
-pub entries-at : (s : List ℕ) (at n k : ℕ) (d : Entry) → k < n → getD (entriesFrom s at n) k d ≡ entryAt s (at + recordSize * k)
-entries-at s at zero k d l = absurd (none-below k l)
+at-as : (v : ℕ) (s : List ℕ) (i n k : ℕ) (d : Entry) → k < n → getD (entriesAs v s i n) k d ≡ entryAt v s (fileSize v (i + k))
+at-as v s i zero k d l = absurd (none-below k l)
   where
     none-below : (k : ℕ) → k < 0 → ⊥
     none-below k l = omega arith
-entries-at s at (suc n) zero d l = ap (entryAt s) (sym (add-zero at))
-entries-at s at (suc n) (suc k) d l =
-    entries-at s (at + recordSize) n k d (omega arith) ∙ ap (entryAt s) (onward at k)
+at-as v s i (suc n) zero d l = ap (λ (j : ℕ). entryAt v s (fileSize v j)) (sym (add-zero i))
+at-as v s i (suc n) (suc k) d l =
+    at-as v s (i + 1) n k d (omega arith) ∙ ap (λ (j : ℕ). entryAt v s (fileSize v j)) (onward i k)
   where
-    onward : (at k : ℕ) → at + recordSize + recordSize * k ≡ at + recordSize * suc k
-    onward at k = omega arith
+    onward : (i k : ℕ) → i + 1 + k ≡ i + suc k
+    onward i k = omega arith
 
 -- the first n and m more
-pub entries-split : (s : List ℕ) (at n m : ℕ) → entriesFrom s at (n + m) ≡ entriesFrom s at n ++ entriesFrom s (at + recordSize * n) m
-entries-split s at zero m = ap₂ (entriesFrom s) (sym (add-zero at)) (zero-add m)
-entries-split s at (suc n) m =
-    ap (entriesFrom s at) (suc-add n m)
-    ∙ ap (entryAt s at ∷_) (entries-split s (at + recordSize) n m ∙ ap (λ (x : ℕ). entriesFrom s (at + recordSize) n ++ entriesFrom s x m) (onward at n))
+split-as : (v : ℕ) (s : List ℕ) (i n m : ℕ) → entriesAs v s i (n + m) ≡ entriesAs v s i n ++ entriesAs v s (i + n) m
+split-as v s i zero m = ap₂ (entriesAs v s) (sym (add-zero i)) (zero-add m)
+split-as v s i (suc n) m =
+    ap (entriesAs v s i) (suc-add n m)
+    ∙ ap (entryAt v s (fileSize v i) ∷_) (split-as v s (i + 1) n m ∙ ap (λ (x : ℕ). entriesAs v s (i + 1) n ++ entriesAs v s x m) (onward i n))
   where
-    onward : (at k : ℕ) → at + recordSize + recordSize * k ≡ at + recordSize * suc k
-    onward at k = omega arith
+    onward : (i k : ℕ) → i + 1 + k ≡ i + suc k
+    onward i k = omega arith
 
--- the records of a part of a slice
-pub entries-drop : (s : List ℕ) (a at n : ℕ) → entriesFrom (drop a s) at n ≡ entriesFrom s (a + at) n
-entries-drop s a at n = same-entries (drop a s) s at (a + at) n λ i l. getD-drop a s (at + i) 0 ∙ ap (λ (k : ℕ). getD s k 0) (sym (add-assoc a at i))
+-- ---- the entries of a file
 
--- the records of bytes after other bytes
-pub entries-after : (p s : List ℕ) (at n : ℕ) → entriesFrom (p ++ s) (length p + at) n ≡ entriesFrom s at n
-entries-after p s at n = same-entries (p ++ s) s (length p + at) at n λ i l. ap (λ (k : ℕ). getD (p ++ s) k 0) (add-assoc (length p) at i) ∙ getD-append-add p s (at + i) 0
+module _ (s : List ℕ) where
+  pub length-entries : (i n : ℕ) → length (entriesFrom s i n) ≡ n
+  length-entries i n = length-as (versionIn s) s i n
+
+  pub entries-at : (i n k : ℕ) (d : Entry) → k < n → getD (entriesFrom s i n) k d ≡ entryIn s (i + k)
+  entries-at i n k d l = at-as (versionIn s) s i n k d l
+
+  pub entries-split : (i n m : ℕ) → entriesFrom s i (n + m) ≡ entriesFrom s i n ++ entriesFrom s (i + n) m
+  entries-split i n m = split-as (versionIn s) s i n m
+
+  -- from the first on
+  pub first-at : (n k : ℕ) (d : Entry) → k < n → getD (entriesFrom s 0 n) k d ≡ entryIn s k
+  first-at n k d l = entries-at 0 n k d l ∙ ap (entryIn s) (zero-add k)
+
+  pub first-split : (n m : ℕ) → entriesFrom s 0 (n + m) ≡ entriesFrom s 0 n ++ entriesFrom s n m
+  first-split n m = entries-split 0 n m ∙ ap (λ (k : ℕ). entriesFrom s 0 n ++ entriesFrom s k m) (zero-add n)

@@ -1,9 +1,12 @@
 pub mod Within
 pub mod Answers
 pub mod Numbers
+pub mod Sizes
 pub mod Entries
 pub mod Records
 pub mod CountCheck
+pub mod BothWays
+pub mod CrossedBytes
 pub mod Checks
 pub mod Checked
 pub mod Lists

@@ -1,11 +1,11 @@
 -- Rows put one after the other at the start of a slice.
 -- Assumes nothing.
-use Prim.Native.Nat.{ℕ, _+_, _*_, _≤_}
+use Prim.Native.Nat.{ℕ, _+_, _*_, _-_, _≤_}
 use native.Mathlib.Omega.{arith}
 use mathlib.Core.Path.{_≡_, sym, _∙_, ap, ap₂}
 use mathlib.Core.Bool.{Bool}
 use mathlib.Core.List.{List, [], _∷_, _++_, append-nil}
-use lib.ListN.{length, take, drop}
+use lib.ListN.{length, getD, take, drop}
 use lib.Seq.{paste, take-at}
 use Rattle.policy.specs.declared.entry.Entry.{Entry}
 use Rattle.policy.specs.steps.Boxes.{sameBox}
@@ -14,7 +14,8 @@ use Rattle.policy.specs.Entry.{selector}
 use Rattle.policy.specs.Sides.{boxOf}
 use Rattle.policy.specs.steps.Rows.{rowSize, rowsIn, numbersOf, allNumbers}
 use Rattle.policy.proofs.Numbers.{length-numbers, numbers-in, numbers-append}
-use Rattle.wire.specs.Format.{recordSize, entryAt, entriesFrom}
+use Rattle.wire.specs.Format.{recordSize, number2, number4, directionsAt, entryAt, versionIn, placeIn, entriesFrom}
+use Rattle.wire.specs.steps.Numbered.{entryIn}
 use Rattle.wire.specs.Writing.{placed}
 use Rattle.wire.proofs.Entries.{length-entries, entries-split}
 use Rattle.wire.proofs.Writing.{placed-next}
@@ -36,21 +37,31 @@ put-all b c es n l p =
     ∙ ap rowsIn (take-at (allNumbers es) (drop (length (allNumbers es)) b) (rowSize * n) (length-numbers es ∙ ap (rowSize *_) l))
     ∙ numbers-in es
 
--- ---- the records of a slice, in turn
+-- the row of a record, from what is read of it
+pub row-read : (v : ℕ) (s : List ℕ) (at a b c d e f g h i j k l m r : ℕ) → a ≡ number4 s at → b ≡ number4 s (at + 4) → c ≡ number4 s (at + 8) → d ≡ number4 s (at + 12)
+    → e ≡ number2 s (at + 16) → f ≡ number2 s (at + 18) → g ≡ number2 s (at + 20) → h ≡ number2 s (at + 22) → i ≡ getD s (at + 24) 0 → j ≡ getD s (at + 25) 0
+    → k ≡ directionsAt v s at .low → l ≡ directionsAt v s at .high → r ≡ recordSize v → m ≡ number2 s (at + (r - 2))
+    → (a ∷ b ∷ c ∷ d ∷ e ∷ f ∷ g ∷ h ∷ i ∷ j ∷ k ∷ l ∷ m ∷ []) ≡ numbersOf (entryAt v s at)
+row-read v s at a b c d e f g h i j k l m r p q t u w x y z o n aa bb cc dd = rw (p, q, t, u, w, x, y, z, o, n, aa, bb, dd, cc)
 
-module _ (s b : List ℕ) (at : ℕ) where
-  pub records-next : (c d : List ℕ) (e : Entry) (i : ℕ) → e ≡ entryAt s (at + recordSize * i) → Put b (entriesFrom s at i) c → d ≡ paste c (rowSize * i) (numbersOf e) rowSize
-      → Put b (entriesFrom s at (i + 1)) d
-  records-next c d e i g p h =
-      put-next b c d (entriesFrom s at i) e i (length-entries s at i) p h
-      ∙ ap (λ (es : List Entry). placed (allNumbers es) b) (ap (λ (e : Entry). entriesFrom s at i ++ (e ∷ [])) g ∙ sym (entries-split s at i 1))
+pub row-is : (s row : List ℕ) (v i at : ℕ) → v ≡ versionIn s → at ≡ placeIn s i → row ≡ numbersOf (entryAt v s at) → row ≡ numbersOf (entryIn s i)
+row-is s row v i at q e r = r ∙ ap₂ (λ (w k : ℕ). numbersOf (entryAt w s k)) q e
 
-  pub records-all : (c : List ℕ) (n i : ℕ) → i ≤ n → n ≤ i → Put b (entriesFrom s at i) c → rowsIn (take (rowSize * n) c) ≡ entriesFrom s at n
-  records-all c n i l m p =
+-- ---- the entries of a file, in turn
+
+module _ (s b : List ℕ) (from : ℕ) where
+  pub entries-next : (c d row : List ℕ) (i : ℕ) → row ≡ numbersOf (entryIn s (from + i)) → Put b (entriesFrom s from i) c → d ≡ paste c (rowSize * i) row (length row)
+      → Put b (entriesFrom s from (i + 1)) d
+  entries-next c d row i r p h =
+      put-next b c d (entriesFrom s from i) (entryIn s (from + i)) i (length-entries s from i) p (h ∙ ap (λ (x : List ℕ). paste c (rowSize * i) x (length x)) r)
+      ∙ ap (λ (es : List Entry). placed (allNumbers es) b) (sym (entries-split s from i 1))
+
+  pub entries-all : (c : List ℕ) (n i : ℕ) → i ≤ n → n ≤ i → Put b (entriesFrom s from i) c → rowsIn (take (rowSize * n) c) ≡ entriesFrom s from n
+  entries-all c n i l m p =
       let e : i ≡ n = omega arith in
-      put-all b c (entriesFrom s at n) n (length-entries s at n) (p ∙ ap (λ (k : ℕ). placed (allNumbers (entriesFrom s at k)) b) e)
+      put-all b c (entriesFrom s from n) n (length-entries s from n) (p ∙ ap (λ (k : ℕ). placed (allNumbers (entriesFrom s from k)) b) e)
 
--- the record at a place, its sides compared with those of ALL
-pub compared-with-all : (s : List ℕ) (at : ℕ) (e : Entry) (x y : List ℕ) (t : Bool) → e ≡ entryAt s at → boxOf x 0 ≡ selector e → boxOf y 0 ≡ everything
-    → t ≡ sameBox arity (boxOf x 0) (boxOf y 0) → t ≡ sameBox arity (selector (entryAt s at)) everything
-compared-with-all s at e x y t g p q r = r ∙ ap₂ (sameBox arity) (p ∙ ap selector g) q
+-- the sides of an entry compared with those of ALL
+pub compared-with-all : (d e : Entry) (x y : List ℕ) (t : Bool) → e ≡ d → boxOf x 0 ≡ selector e → boxOf y 0 ≡ everything
+    → t ≡ sameBox arity (boxOf x 0) (boxOf y 0) → t ≡ sameBox arity (selector d) everything
+compared-with-all d e x y t g p q r = r ∙ ap₂ (sameBox arity) (p ∙ ap selector g) q

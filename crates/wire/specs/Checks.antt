@@ -12,33 +12,34 @@ use Rattle.policy.specs.Entry.{crossed}
 use Rattle.policy.specs.Refusals.{Answer, refusal, accepted, refuse, firstOf}
 use Rattle.wire.specs.declared.check.Checked.{Checked}
 use Rattle.wire.specs.declared.check.Checked.the-variants.{Good, Refused}
-use Rattle.wire.specs.Format.{version, headSize, recordSize, lengthIn, versionIn, countIn, listIn}
+use Rattle.wire.specs.Format.{isVersion, headSize, recordSize, lengthIn, versionIn, countIn, listIn}
 
 -- 1, missized: fewer than 5 bytes, or not exactly L + 2
 abbrev pub missized : List ℕ → Bool
 missized s = ltb (length s) headSize || not (eqb (length s) (lengthIn s + 2))
 
--- 2, version: byte 2 is not 1
+-- 2, version: byte 2 is not 1 or 2
 abbrev pub badVersion : List ℕ → Bool
-badVersion s = not (eqb (versionIn s) version)
+badVersion s = not (isVersion (versionIn s))
 
 -- n is not 1 to the limit
 abbrev pub outside : ℕ → ℕ → Bool
 outside limit n = ltb n 1 || ltb limit n
 
--- 3, count: n is outside its limits, or (L − 3) divided by 28 isn't n with remainder 0
+-- 3, count: n is outside its limits, or (L − 3) divided by the size of a record, 28 or 30, isn't n with remainder 0
 abbrev pub badCount : List ℕ → ℕ → Bool
 badCount s limit =
     outside limit (countIn s)
-    || (not (eqb ((lengthIn s - 3) / recordSize) (countIn s)) || not (eqb ((lengthIn s - 3) % recordSize) 0))
+    || (not (eqb ((lengthIn s - 3) / recordSize (versionIn s)) (countIn s)) || not (eqb ((lengthIn s - 3) % recordSize (versionIn s)) 0))
 
--- 4, crossed: the number of the first crossed entry; entries are numbered from i
-abbrev pub firstCrossedFrom : ℕ → List Entry → Option ℕ
-firstCrossedFrom i [] = none
-firstCrossedFrom i (e ∷ p) = cond (crossed e) (some i) (firstCrossedFrom (i + 1) p)
+-- the number of the first entry with a property; entries are numbered from i
+abbrev pub firstFrom : (Entry → Bool) → ℕ → List Entry → Option ℕ
+firstFrom P i [] = none
+firstFrom P i (e ∷ p) = cond (P e) (some i) (firstFrom P (i + 1) p)
 
+-- 4, crossed: the number of the first crossed entry
 abbrev pub firstCrossed : List Entry → Option ℕ
-firstCrossed p = firstCrossedFrom 0 p
+firstCrossed p = firstFrom crossed 0 p
 
 -- a check refuses where there is an entry to name
 abbrev pub refuseEntry : (ℕ → Refusal) → Option ℕ → Option Answer

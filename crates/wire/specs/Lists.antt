@@ -6,7 +6,7 @@ use Rattle.policy.specs.declared.entry.Entry.{Entry}
 use Rattle.policy.specs.Refusals.{Answer}
 use Rattle.wire.specs.declared.list.Entries.{Entries}
 use Rattle.wire.specs.declared.read.Reading.{Reading}
-use Rattle.wire.specs.Format.{listLimit, listIn}
+use Rattle.wire.specs.Format.{mergedVersion, listLimit, versionIn, listIn}
 use Rattle.wire.specs.Answers.{ifAccepted}
 use Rattle.wire.specs.Checks.{checksOf, checked}
 
@@ -23,6 +23,8 @@ emptyEntry = record {
   «remote_port_high» = 0;
   «protocol_low» = 1;
   «protocol_high» = 0;
+  «direction_low» = 1;
+  «direction_high» = 0;
   actions = 0;
 }
 
@@ -30,13 +32,17 @@ emptyEntry = record {
 abbrev pub held : Entries → List Entry
 held l = take (l .count) (l .entries)
 
--- a list in the first of 256 places, the others being empty
-abbrev pub listed : List Entry → Entries
-listed p = record { entries = p ++ replicate (listLimit - length p) emptyEntry; count = length p }
+-- a list of a version in the first of 256 places, the others being empty
+abbrev pub listed : ℕ → List Entry → Entries
+listed v p = record { version = v; entries = p ++ replicate (listLimit - length p) emptyEntry; count = length p }
 
--- reading: what checks 1 to 4 answer, and the list; no entries where the file is refused
+-- no entries
+abbrev pub noEntries : Entries
+noEntries = listed mergedVersion []
+
+-- reading: what checks 1 to 4 answer, and the list, which carries the file's version; no entries where the file is refused
 abbrev pub readingOf : List ℕ → Answer × Entries
-readingOf s = (checksOf s listLimit, listed (ifAccepted (checksOf s listLimit) (listIn s) []))
+readingOf s = (checksOf s listLimit, ifAccepted (checksOf s listLimit) (listed (versionIn s) (listIn s)) noEntries)
 
 -- a reading in 01's terms
 abbrev pub reading : Reading → Answer × Entries

@@ -6,7 +6,7 @@ ghost use Rattle.policy.specs.Refusals.{numbers};
 ghost use Rattle.wire.specs.Format.{headerBytes, headerPut};
 
 // The numbers of h, the highest byte of each first.
-pub fn header_bytes(h: Header) -> [u8; 13]
+pub fn header_bytes(h: Header) -> [u8; 14]
     ensures { λ r. ⌜ r ≡ headerBytes (numbers h) ⌝ }
 {
     [
@@ -23,14 +23,15 @@ pub fn header_bytes(h: Header) -> [u8; 13]
         (h.remote_port / 256 % 256) as u8,
         (h.remote_port % 256) as u8,
         h.protocol,
+        h.direction,
     ]
 }
 
-// Puts the header at the start of the buffer, if it has 13 bytes.
+// Puts the header at the start of the buffer, if it has 14 bytes.
 pub fn put_header(buffer: &mut [u8], h: Header)
     ensures { λ _. ⌜ now (buffer .exit) ≡ headerPut (numbers h) (now (buffer .entry)) ⌝ }
 {
-    if 13 <= buffer.len() {
+    if 14 <= buffer.len() {
         let bytes = header_bytes(h);
         put_bytes(buffer, 0, &bytes);
     }

@@ -1,5 +1,6 @@
 // The file: its numbers, records and checks, reading it and writing it.
 pub mod check;
+mod crossed;
 pub mod format;
 pub mod header;
 pub mod list;

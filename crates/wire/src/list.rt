@@ -1,12 +1,13 @@
 // Lists of unpacked entries.
 use crate::format::LIST_LIMIT;
+use crate::format::MERGED_VERSION;
 use policy::entry::Entry;
 ghost use mathlib.Core.Path.{_≡_};
-ghost use mathlib.Core.List.{[]};
-ghost use Rattle.wire.specs.Lists.{listed};
+ghost use Rattle.wire.specs.Lists.{noEntries};
 
-// Up to 256 entries, in the first places.
+// A list of up to 256 entries, in the first places, and the version of its file.
 pub struct Entries {
+    pub version: u8,
     pub entries: [Entry; LIST_LIMIT],
     pub count: usize,
 }
@@ -23,14 +24,17 @@ pub const EMPTY: Entry = Entry {
     remote_port_high: 0,
     protocol_low: 1,
     protocol_high: 0,
+    direction_low: 1,
+    direction_high: 0,
     actions: 0,
 };
 
 // A list of no entries.
 pub fn no_entries() -> Entries
-    ensures { λ r. ⌜ r ≡ listed [] ⌝ }
+    ensures { λ r. ⌜ r ≡ noEntries ⌝ }
 {
     Entries {
+        version: MERGED_VERSION,
         entries: [EMPTY; LIST_LIMIT],
         count: 0,
     }

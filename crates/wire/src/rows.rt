@@ -1,6 +1,10 @@
 // The records of a file as rows of numbers.
-use crate::format::RECORD_SIZE;
-use crate::record::read_entry;
+use crate::format::record_size;
+use crate::number::read1;
+use crate::number::read2;
+use crate::number::read4;
+use crate::record::entry_in;
+use crate::record::place_as;
 use policy::entry::Entry;
 use policy::entry::row_of;
 use policy::entry::sides_of;
@@ -15,7 +19,8 @@ ghost use Rattle.policy.specs.steps.Boxes.{sameBox};
 ghost use Rattle.policy.specs.Header.{arity, everything};
 ghost use Rattle.policy.specs.Entry.{selector};
 ghost use Rattle.policy.specs.steps.Rows.{rowSize, rowsIn, numbersOf};
-ghost use Rattle.wire.specs.Format.{recordSize, entryAt, entriesFrom};
+ghost use Rattle.wire.specs.Format.{recordSize, directionsAt, entryAt, versionIn, placeIn, entriesFrom};
+ghost use Rattle.wire.specs.steps.Numbered.{entryIn};
 
 // Copies numbers to a place.
 fn put_numbers(rows: &mut [u32], at: usize, numbers: &[u32])
@@ -38,24 +43,81 @@ pub fn put_row(rows: &mut [u32], at: usize, e: Entry)
     put_numbers(rows, at, &row);
 }
 
-// Decodes the n records from a place on into the first rows.
-pub fn decode_records(s: &[u8], at: usize, n: usize, rows: &mut [u32])
-    requires { ⌜ (at + recordSize * n ≤ length (now s)) × (rowSize * n ≤ length (now rows)) ⌝ }
-    ensures { λ _. ⌜ rowsIn (take (rowSize * n) (now (rows .exit))) ≡ entriesFrom (now (s .entry)) at n ⌝ }
+// The ends of the direction of the record at a place, in a file of a version: one of version 1 covers both. The byte is read in either, where version 1 has the
+// action set: without a branch between them, the compiler reads the numbers of a record whole, and not byte by byte.
+fn direction_low(s: &[u8], at: usize, version: u8) -> u32
+    requires { ⌜ at + 28 ≤ length (now s) ⌝ }
+    ensures { λ r. ⌜ r ≡ directionsAt version (now (s .entry)) at .low ⌝ }
 {
+    let low = read1(s, at + 26);
+    if version == 1 {
+        return 0;
+    }
+    low
+}
+
+fn direction_high(s: &[u8], at: usize, version: u8) -> u32
+    requires { ⌜ at + 28 ≤ length (now s) ⌝ }
+    ensures { λ r. ⌜ r ≡ directionsAt version (now (s .entry)) at .high ⌝ }
+{
+    let high = read1(s, at + 27);
+    if version == 1 {
+        return 1;
+    }
+    high
+}
+
+// The row of the record at a place, in a file of a version, read from its bytes: decoding, which alone calls it, takes some five times as long with an entry
+// made of each record.
+fn read_row(s: &[u8], at: usize, version: u8) -> [u32; ROW]
+    requires { ⌜ (at + 28 ≤ length (now s)) × (at + recordSize version ≤ length (now s)) ⌝ }
+    ensures { λ r. ⌜ r ≡ numbersOf (entryAt version (now (s .entry)) at) ⌝ }
+{
+    [
+        read4(s, at),
+        read4(s, at + 4),
+        read4(s, at + 8),
+        read4(s, at + 12),
+        read2(s, at + 16) as u32,
+        read2(s, at + 18) as u32,
+        read2(s, at + 20) as u32,
+        read2(s, at + 22) as u32,
+        read1(s, at + 24),
+        read1(s, at + 25),
+        direction_low(s, at, version),
+        direction_high(s, at, version),
+        read2(s, at + (record_size(version) - 2)) as u32,
+    ]
+}
+
+// The row of entry number i of a file of a version.
+fn row_in(file: &[u8], version: u8, i: usize) -> [u32; ROW]
+    requires { ⌜ (placeIn (now file) (i + 1) ≤ length (now file)) × (version ≡ versionIn (now file)) ⌝ }
+    ensures { λ r. ⌜ r ≡ numbersOf (entryIn (now (file .entry)) i) ⌝ }
+{
+    read_row(file, place_as(file, version, i), version)
+}
+
+// Decodes n entries of a file, from a number on, into the first rows. The version is read once: the compiler does not know that the rows lie apart from the file.
+pub fn decode_entries(file: &[u8], from: usize, n: usize, rows: &mut [u32])
+    requires { ⌜ (placeIn (now file) (from + n) ≤ length (now file)) × (rowSize * n ≤ length (now rows)) ⌝ }
+    ensures { λ _. ⌜ rowsIn (take (rowSize * n) (now (rows .exit))) ≡ entriesFrom (now (file .entry)) from n ⌝ }
+{
+    let version = file[2];
     let mut i: usize = 0;
     while i < n {
-        put_row(rows, ROW * i, read_entry(s, at + RECORD_SIZE * i));
+        let row = row_in(file, version, from + i);
+        put_numbers(rows, ROW * i, &row);
         i += 1;
     }
 }
 
-// Whether the record at a place is 01's ALL: a list that ends with it has no gap.
-pub fn record_is_all(s: &[u8], at: usize) -> bool
-    requires { ⌜ at + recordSize ≤ length (now s) ⌝ }
-    ensures { λ t. ⌜ t ≡ sameBox arity (selector (entryAt (now (s .entry)) at)) everything ⌝ }
+// Whether entry number i of a file is 01's ALL: a list that ends with it has no gap.
+pub fn entry_is_all(file: &[u8], i: usize) -> bool
+    requires { ⌜ placeIn (now file) (i + 1) ≤ length (now file) ⌝ }
+    ensures { λ t. ⌜ t ≡ sameBox arity (selector (entryIn (now (file .entry)) i)) everything ⌝ }
 {
-    let sides = sides_of(read_entry(s, at));
+    let sides = sides_of(entry_in(file, i));
     let all = whole();
     is_same(&sides, &all)
 }

@@ -6,7 +6,7 @@ use lib.Dec.{ltb, eqb}
 use lib.ListN.{length, getD}
 use Rattle.policy.specs.Entry.{selector}
 use Rattle.policy.specs.Refusals.{Answer, isAccepted}
-use Rattle.wire.specs.Format.{recordSize, entryAt, headerPut}
+use Rattle.wire.specs.Format.{mergedVersion, recordSize, entryAt, headerPut}
 use Rattle.region.specs.declared.search.Want.{Want}
 use Rattle.region.specs.declared.search.Want.the-variants.{Uncaught, CaughtBy, Differs}
 use Rattle.region.specs.Search.{searchOf}
@@ -35,5 +35,5 @@ searchResult a buffer = cond (isAccepted a) (foundResult (a .values) buffer) (25
 -- the search of a record's selector; 512 and the buffer where there are too few bytes for a record
 unfoldable pub measuredSearch : (file entry : List ℕ) → (want value : ℕ) → (buffer : List ℕ) → ℕ × List ℕ
 measuredSearch file entry want value buffer =
-    cond (ltb (length entry) recordSize) (512, buffer)
-    (searchResult (searchOf file (selector (entryAt entry 0)) (wanted want value)) buffer)
+    cond (ltb (length entry) (recordSize mergedVersion)) (512, buffer)
+    (searchResult (searchOf file (selector (entryAt mergedVersion entry 0)) (wanted want value)) buffer)

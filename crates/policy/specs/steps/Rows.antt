@@ -37,7 +37,7 @@ abbrev pub numbersOf : Entry → List ℕ
 numbersOf e =
     e .«local_low» ∷ e .«local_high» ∷ e .«remote_low» ∷ e .«remote_high»
     ∷ e .«local_port_low» ∷ e .«local_port_high» ∷ e .«remote_port_low» ∷ e .«remote_port_high»
-    ∷ e .«protocol_low» ∷ e .«protocol_high» ∷ e .actions ∷ []
+    ∷ e .«protocol_low» ∷ e .«protocol_high» ∷ e .«direction_low» ∷ e .«direction_high» ∷ e .actions ∷ []
 
 -- the rows of a list, one after the other
 abbrev pub allNumbers : List Entry → List ℕ

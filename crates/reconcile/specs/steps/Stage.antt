@@ -1,16 +1,16 @@
 -- The working list after the parties so far, as the code keeps it: in the first places of an array; 257 entries say that it is crowded.
-use Prim.Native.Nat.{ℕ, _/_, min}
+use Prim.Native.Nat.{ℕ, min}
 use mathlib.Core.Bool.{cond}
 use mathlib.Core.List.{List, [], _∷_}
 use mathlib.Core.Option.{Option, none, some}
 use lib.Dec.{leb}
-use lib.ListN.{length, take}
+use lib.ListN.{take}
 use Rattle.policy.specs.declared.entry.Entry.{Entry}
 use Rattle.policy.specs.declared.refusal.Refusal.the-variants.{Bare, Crowded}
 use Rattle.policy.specs.Header.{Headers}
 use Rattle.policy.specs.Least.{least}
 use Rattle.policy.specs.Policy.{allowed}
-use Rattle.wire.specs.Format.{recordSize, filedLimit, listLimit, entriesFrom}
+use Rattle.wire.specs.Format.{filedLimit, listLimit, recordsIn, entriesFrom}
 use Rattle.reconcile.specs.declared.stage.Stage.{Stage}
 use Rattle.reconcile.specs.Rules.{isEmpty, trimmed, Working, list, crowded, limited, next, Merging, refused, settled, working}
 
@@ -22,9 +22,9 @@ workingIn es n = cond (leb n listLimit) (list (take n es)) crowded
 abbrev pub stageIn : Stage → Option Working
 stageIn s = cond (s .bare) none (some (workingIn (s .entries) (s .count)))
 
--- a party's list in a slice of records: no more are read than a filed list has
+-- a party's list in a file: no more entries are read than a filed list has
 abbrev pub filedIn : List ℕ → List Entry
-filedIn s = entriesFrom s 0 (min (length s / recordSize) filedLimit)
+filedIn s = entriesFrom s 0 (min (recordsIn s) filedLimit)
 
 -- rules 1 and 2 for one party more, the starting one included
 abbrev pub added : Headers → Option Working → List Entry → Option Working

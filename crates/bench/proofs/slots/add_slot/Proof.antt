@@ -1,4 +1,4 @@
--- The bytes lent are those behind the head of the slot's file, for every length.
+-- The bytes lent are the slot's file, for every length.
 -- Assumes nothing.
 use borrow.Author.Needs.{needs}
 use Prim.Native.Nat.{ℕ}
@@ -12,36 +12,36 @@ use Rattle.bench.proofs.slots.add_slot.Statement.{statement}
 use Rattle.bench.proofs.slots.add_slot.Tie as tie
 
 -- the length of the array, from what owning it tells
-slot-size : (c : tie.Start) → length (c .args .slot .bytes) ≡ 901
-slot-size c = length-unmapped ℕ (c .args .slot .bytes) 901 (c .good .1 .1 .0 .1 .1 .0 .1 .0 .1)
+slot-size : (c : tie.Start) → length (c .args .slot .bytes) ≡ 965
+slot-size c = length-unmapped ℕ (c .args .slot .bytes) 965 (c .good .1 .1 .0 .1 .1 .0 .1 .0 .1)
 
-records-end-requires : tie.Need-records-end-requires
-records-end-requires c κs = search needs
+file-end-requires : tie.Need-file-end-requires
+file-end-requires c κs = search needs
 
-sub-add-records : tie.Need-sub-add-records
-sub-add-records c = search needs
+sub-add-file : tie.Need-sub-add-file
+sub-add-file c = search needs
 
-part-add-records-start : tie.Need-part-add-records-start
-part-add-records-start c = search needs
+part-add-file-start : tie.Need-part-add-file-start
+part-add-file-start c = search needs
 
-part-add-records-end : tie.Need-part-add-records-end
-part-add-records-end c = let k = slot-size (c .before .before .before .before) in omega arith
+part-add-file-end : tie.Need-part-add-file-end
+part-add-file-end c = let k = slot-size (c .before .before .before .before) in omega arith
 
-add-records-requires : tie.Need-add-records-requires
-add-records-requires c κs = search needs
+add-file-requires : tie.Need-add-file-requires
+add-file-requires c κs = search needs
 
 returns : tie.Need-returns
 returns c =
     let g = c .before .before .before .before .before .before in
-    slot-adds (stageIn (g .args .s)) (stageIn (c .add-records .result)) (g .args .slot) _ (slot-size g) (c .before .before .before .before .before .records-end .ensures) (c .add-records .ensures)
+    slot-adds (stageIn (g .args .s)) (stageIn (c .add-file .result)) (g .args .slot) _ (slot-size g) (c .before .before .before .before .before .file-end .ensures) (c .add-file .ensures)
 
 pub add-slot-spec : {M : Type 1} → statement M
 add-slot-spec =
     tie.close
     (tie.spec
-    records-end-requires
-    sub-add-records
-    part-add-records-start
-    part-add-records-end
-    add-records-requires
+    file-end-requires
+    sub-add-file
+    part-add-file-start
+    part-add-file-end
+    add-file-requires
     returns)

@@ -1,15 +1,18 @@
--- The part of 28 bytes from the record's start is the record (`record-lent`).
+-- The part of the record's size from its start on is the record (`record-lent`).
 -- Assumes nothing.
 use Rattle.lookup.proofs.FileLookup.{record-lent}
 use borrow.Author.Needs.{needs}
 use Rattle.lookup.proofs.file.record_of.Statement.{statement}
 use Rattle.lookup.proofs.file.record_of.Tie as tie
 
-mul-start : tie.Need-mul-start
-mul-start c = search needs
+record-place-requires : tie.Need-record-place-requires
+record-place-requires c κs = search needs
 
-add-start : tie.Need-add-start
-add-start c = search needs
+shared-slice-read-record-size : tie.Need-shared-slice-read-record-size
+shared-slice-read-record-size c = search needs
+
+record-size-requires : tie.Need-record-size-requires
+record-size-requires c κs = search needs
 
 add-end : tie.Need-add-end
 add-end c = search needs
@@ -29,4 +32,12 @@ returns c = search record-lent
 pub record-of-spec : {M : Type 1} → statement M
 record-of-spec =
     tie.close
-    (tie.spec mul-start add-start add-end sub-result part-result-start part-result-end returns)
+    (tie.spec
+    record-place-requires
+    shared-slice-read-record-size
+    record-size-requires
+    add-end
+    sub-result
+    part-result-start
+    part-result-end
+    returns)

@@ -1,7 +1,7 @@
 -- `lookup_table` meets its contract: a walk of its code by hand, since a slice of structs is not covered by the borrow checker.
--- Before each turn of the loop no entry before i matches the header (`HeaderPassed`). A turn reads entry i through the lent slice and asks
--- `policy::entry::catches_header` of it: a match of a header is the answer (`header-matched`), a miss carries the invariant on to i + 1 (`header-unmatched`), and at the
--- table's end nothing catches the header (`header-ended`).
+-- Before each turn of the loop no entry before i matches the header (`TablePassed`). A turn reads entry i through the lent slice and asks
+-- `policy::entry::catches_header` of it: a match of a header is the answer (`table-matched`), a miss carries the invariant on to i + 1 (`table-unmatched`), and at the
+-- table's end nothing catches the header (`table-ended`).
 -- Assumes nothing.
 use mathlib.Core.Path.{_≡_, refl, sym, ap, _∙_}
 use Prim.Native.Nat.{ℕ, _+_, _-_, _*_, _≤_, _<_, _^_, zero-le}
@@ -57,7 +57,7 @@ use Rattle.policy.specs.declared.header.Header.{Header}
 use Rattle.policy.specs.declared.entry.Entry.{Entry}
 use Rattle.policy.specs.declared.entry.Caught.{Caught}
 use Rattle.policy.specs.declared.entry.Caught.the-variants.{By, Uncaught}
-use Rattle.policy.specs.Entry.{matches}
+use Rattle.policy.specs.Entry.{matches, crossed}
 use Rattle.policy.specs.Header.{among, headers}
 use Rattle.lookup.specs.Lookup.{caughtAnswer, tableLookupOf}
 use Rattle.wire.specs.Lists.{emptyEntry}
@@ -71,7 +71,7 @@ use Rattle.policy.proofs.entry.catches_header as matcher
 use Rattle.policy.proofs.entry.catches_header.Symbol as matcher-def
 use Rattle.policy.proofs.entry.catches_header.Symbol.{name as #policy·entry·catches-header}
 use Rattle.policy.proofs.entry.catches_header.Met as matcher-thm
-use Rattle.lookup.proofs.TableLookup.{HeaderPassed, header-matched, header-unmatched, header-ended}
+use Rattle.lookup.proofs.TableLookup.{TablePassed, table-matched, table-unmatched, table-ended}
 use Rattle.lookup.proofs.table.lookup_table.Key.{name as #lookup·table·lookup-table}
 use Rattle.lookup.proofs.table.lookup_table as this
 use Rattle.lookup.proofs.table.lookup_table.Statement as stated
@@ -158,7 +158,7 @@ stayed = (stay-none-slice (0 ∷ []) tt (plain (λ _. R)) yes, (stay-none (λ _.
 -- ---- the contract of `catches_header`
 
 abbrev catches : Entry → Header → Bool
-catches e h = among headers h && matches e h
+catches e h = among headers h && (not (crossed e) && matches e h)
 
 module _ {M : Type 1} (𝓤 : URA M) (H : Heap 𝓤) (A : Atoms 𝓤) (mem : Memory → SProp 𝓤) (run : Routine → Fun 𝓤) where
   abbrev Matcher : Contract 𝓤
@@ -209,7 +209,7 @@ module _ {M : Type 1} (𝓤 : URA M) (H : Heap 𝓤) (A : Atoms 𝓤) (W : Given
 
   -- the loop's invariant: no entry before i matches h; and its measure, the entries that are left
   abbrev Upto : Type 0
-  Upto = (i : ℕ) × ((i ≤ length p) × HeaderPassed p h i)
+  Upto = (i : ℕ) × ((i ≤ length p) × TablePassed p h i)
 
   abbrev Nearer : Upto → Upto → Type 0
   Nearer j i = length p - j .0 < length p - i .0
@@ -272,11 +272,11 @@ module _ {M : Type 1} (𝓤 : URA M) (H : Heap 𝓤) (A : Atoms 𝓤) (W : Given
         assigns ! (of-opd ! (load ! (from ! (fld ! refl (stop !))) (look-in ! 17 (sub ! 1 refl (whole !))))) (from ! (stop !)) (init ! 11 refl (tt, record { fits = room .0 })) $
         assigns ! (bin ! (load ! (from ! (stop !)) (look ! 13 refl)) (load ! (from ! (stop !)) (look ! 11 refl)) tt) (from ! (stop !)) (init ! 9 refl (tt, tt)) $
         first ! $ branches ! (load ! (from ! (stop !)) (look ! 9 refl))
-        -- _4 = i * 28; _7 = the table's start + _4, which is where entry i lies
+        -- _4 = i * 32; _7 = the table's start + _4, which is where entry i lies
         (λ less. skips ! $ exec ! C Λ En more (anyQ (Turned i)) $
         assigns ! (bin ! (load ! (from ! (stop !)) (look ! 13 refl)) (lit ! tt) (record { fits = scaled less })) (from ! (stop !)) (store ! 11 refl (tt, record { fits = scaled less })) $
         assigns ! (bin ! (load ! (from ! (fld ! refl (stop !))) (look-in ! 17 (sub ! 0 refl (whole !)))) (load ! (from ! (stop !)) (look ! 11 refl)) tt) (from ! (stop !)) (init ! 5 refl (tt, tt)) $
-        rewrite ! 5 (λ (n : ℕ). ‵ (fat fullShare tyPtr l₇ 0 (vptr b n))) (sym (place-is 28 o (i .0))) refl $
+        rewrite ! 5 (λ (n : ℕ). ‵ (fat fullShare tyPtr l₇ 0 (vptr b n))) (sym (place-is 32 o (i .0))) refl $
         -- the slice's reference is Copy: one copy is kept, and the borrow of the other is opened with the token, as far as entry i
         move ! (1 ∷ []) $ use1 W (‵ S ⊛ ‵ S) (shr-slice-copy 𝓤 H A W (named 0) κ R .twice (x .0) (vals .0)) $ split ! $ fsplit ! $ drop ! $ fsplit ! $ drop ! $ move ! (0 ∷ 2 ∷ []) $
         looks-slice ! tt R (Is R) (shows 𝓤 H A R) (StructLaws.vals TEntry.the-type TEntry′.the-laws) (StructLaws.tells TEntry.the-type TEntry′.the-laws) (StructLaws.copy TEntry.the-type TEntry′.the-copy 𝓤 H A W) p b o (λ q′.
@@ -304,7 +304,7 @@ module _ {M : Type 1} (𝓤 : URA M) (H : Heap 𝓤) (A : Atoms 𝓤) (W : Given
         (λ hit. assigns ! (agg ! (and-then ! (lit ! tt) (and-then ! (load ! (from ! (stop !)) (look ! 13 refl)) (no-more !)))) (from ! (stop !))
         (init ! 19 refl (EnumLaws.lawful TCaught.the-type TCaught′.the-laws 𝓤 H A W tt .typed (By (i .0)) (val (By (i .0)) ∷ []) (made-by (i .0) (fits i)) .0)) $
         returns-within ! Post refl (look ! 19 refl) $ forget ! 3 refl $ forget ! 5 refl $ forget ! 7 refl $ forget ! 9 refl $ forget ! 11 refl $ forget ! 13 refl $ forget ! 15 refl $ forget ! 17 refl $ forget ! 19 refl $
-        frees-all (By (i .0)) (made-by (i .0) (fits i)) (ap caughtAnswer (header-matched p h (i .0) emptyEntry (elem (i .0)) (below less) refl (i .1 .1) (sym e ∙ is-true r hit))))
+        frees-all (By (i .0)) (made-by (i .0) (fits i)) (ap caughtAnswer (table-matched p h (i .0) emptyEntry (elem (i .0)) (below less) refl (i .1 .1) (sym e ∙ is-true r hit))))
         -- it does not: i += 1, and the next turn
         (λ miss. skips ! $ exec ! C Λ En step (anyQ (Turned i)) $
         assigns-last ! (bin ! (load ! (from ! (stop !)) (look ! 13 refl)) (lit ! tt) (record { fits = fits (next less r e miss) })) (from ! (stop !)) (store ! 13 refl (tt, record { fits = fits (next less r e miss) })) $
@@ -314,7 +314,7 @@ module _ {M : Type 1} (𝓤 : URA M) (H : Heap 𝓤) (A : Atoms 𝓤) (W : Given
         (λ over. jumps ! $ exec ! C Λ En rest (atRet En Post) $
         assigns ! (agg ! (and-then ! (lit ! tt) (no-more !))) (from ! (stop !)) (init ! 19 refl (EnumLaws.lawful TCaught.the-type TCaught′.the-laws 𝓤 H A W tt .typed Uncaught (val Uncaught ∷ []) made-uncaught .0)) $
         returns ! (look ! 19 refl) $ forget ! 9 refl $ forget ! 11 refl $ forget ! 13 refl $ forget ! 15 refl $ forget ! 17 refl $ forget ! 19 refl $
-        frees-all Uncaught made-uncaught (ap caughtAnswer (header-ended p h (i .0) (nltb→le (i .0) (length p) over) (i .1 .1))))
+        frees-all Uncaught made-uncaught (ap caughtAnswer (table-ended p h (i .0) (nltb→le (i .0) (length p) over) (i .1 .1))))
       where
         fits : (j : Upto) → j .0 < 2 ^ 64
         fits j = lt-of-le-of-lt (j .1 .0) (room .0)
@@ -322,11 +322,11 @@ module _ {M : Type 1} (𝓤 : URA M) (H : Heap 𝓤) (A : Atoms 𝓤) (W : Given
         below : T (ltb (i .0) (length p)) → i .0 < length p
         below less = ltb→lt (i .0) (length p) less
 
-        scaled : T (ltb (i .0) (length p)) → i .0 * 28 < 2 ^ 64
-        scaled less = let l : i .0 < length p = below less in let most : length p * 28 < 2 ^ 63 = room .1 in omega arith
+        scaled : T (ltb (i .0) (length p)) → i .0 * 32 < 2 ^ 64
+        scaled less = let l : i .0 < length p = below less in let most : length p * 32 < 2 ^ 63 = room .1 in omega arith
 
         next : T (ltb (i .0) (length p)) → (r : Bool) → r ≡ catches (elem (i .0)) h → T (not r) → Upto
-        next less r e miss = (i .0 + 1, (add-one-le (below less), header-unmatched p h (i .0) emptyEntry (elem (i .0)) (below less) refl (i .1 .1) (sym e ∙ is-false r miss)))
+        next less r e miss = (i .0 + 1, (add-one-le (below less), table-unmatched p h (i .0) emptyEntry (elem (i .0)) (below less) refl (i .1 .1) (sym e ∙ is-false r miss)))
 
   -- the whole body: the locals are allocated, the arguments passed, i = 0, and the loop
   walk : Is THeader.the-row h (hv ∷ []) → (𝓣 : Tables 𝓤 H) → FmC 𝓤 H (W .laws) (𝓣 .C) → Triple 𝓤 (𝓣 .C #policy·entry·catches-header) (Matcher 𝓤 H A mem run)

@@ -5,6 +5,9 @@ use borrow.Author.Needs.{needs}
 use Rattle.measured.proofs.searches.measured_search.Statement.{statement}
 use Rattle.measured.proofs.searches.measured_search.Tie as tie
 
+record-size-requires : tie.Need-record-size-requires
+record-size-requires c κs = search needs
+
 returns : tie.Need-returns
 returns c = search no-record
 
@@ -57,6 +60,7 @@ pub measured-search-spec : {M : Type 1} → statement M
 measured-search-spec =
     tie.close
     (tie.spec
+    record-size-requires
     returns
     read-entry-requires
     sides-of-requires

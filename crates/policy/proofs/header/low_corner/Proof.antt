@@ -29,6 +29,12 @@ low-requires-5 c κs = search needs
 cast-t9 : tie.Need-cast-t9
 cast-t9 c = search low-fits
 
+low-requires-6 : tie.Need-low-requires-6
+low-requires-6 c κs = search needs
+
+cast-t11 : tie.Need-cast-t11
+cast-t11 c = search low-fits
+
 returns : tie.Need-returns
 unfolding boxOf
 returns c = cc
@@ -45,4 +51,6 @@ low-corner-spec =
     cast-t7
     low-requires-5
     cast-t9
+    low-requires-6
+    cast-t11
     returns)

@@ -33,6 +33,12 @@ greater1-requires c κs = search needs
 lesser1-requires : tie.Need-lesser1-requires
 lesser1-requires c κs = search needs
 
+greater1-requires-2 : tie.Need-greater1-requires-2
+greater1-requires-2 c κs = search needs
+
+lesser1-requires-2 : tie.Need-lesser1-requires-2
+lesser1-requires-2 c κs = search needs
+
 shared-actions-requires : tie.Need-shared-actions-requires
 shared-actions-requires c κs = search needs
 
@@ -53,5 +59,7 @@ both-entries-spec =
     lesser2-requires-2
     greater1-requires
     lesser1-requires
+    greater1-requires-2
+    lesser1-requires-2
     shared-actions-requires
     returns)

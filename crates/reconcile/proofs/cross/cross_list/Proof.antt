@@ -1,17 +1,18 @@
--- What is decoded are the rows of the records.
+-- What is decoded are the rows of the file.
+use Rattle.wire.proofs.Sizes.{first-counted}
 use borrow.Author.Needs.{needs}
 use Rattle.reconcile.proofs.Pairs.{decoded-rows, crossed-list}
 use Rattle.reconcile.proofs.cross.cross_list.Statement.{statement}
 use Rattle.reconcile.proofs.cross.cross_list.Tie as tie
 
-records-in-requires : tie.Need-records-in-requires
-records-in-requires c κs = search needs
+filed-count-requires : tie.Need-filed-count-requires
+filed-count-requires c κs = search needs
 
-slice-aggregate-decode-records : tie.Need-slice-aggregate-decode-records
-slice-aggregate-decode-records c = search needs
+slice-aggregate-decode-entries : tie.Need-slice-aggregate-decode-entries
+slice-aggregate-decode-entries c = search needs
 
-decode-records-requires : tie.Need-decode-records-requires
-decode-records-requires c κs = search needs
+decode-entries-requires : tie.Need-decode-entries-requires
+decode-entries-requires c κs = (search first-counted, search needs)
 
 mul-cross-rows : tie.Need-mul-cross-rows
 mul-cross-rows c = search needs
@@ -38,9 +39,9 @@ pub cross-list-spec : {M : Type 1} → statement M
 cross-list-spec =
     tie.close
     (tie.spec
-    records-in-requires
-    slice-aggregate-decode-records
-    decode-records-requires
+    filed-count-requires
+    slice-aggregate-decode-entries
+    decode-entries-requires
     mul-cross-rows
     sub-cross-rows
     part-cross-rows-start

@@ -7,16 +7,16 @@ use lib.ListN.{length}
 use Rattle.policy.specs.steps.Rows.{rowSize, rowsIn}
 use Rattle.wire.specs.Format.{filedLimit, listLimit}
 use Rattle.reconcile.proofs.Keeping.{Keeps, keeps-none}
-use Rattle.reconcile.proofs.Pairs.{pairs, turn-ends, turn-shadowed, turn-full, turn-kept, crossed-all}
+use Rattle.reconcile.proofs.Pairs.{their-entry, pairs, turn-ends, turn-shadowed, turn-full, turn-kept, crossed-all}
 use Rattle.reconcile.proofs.cross.cross_rows.Statement.{statement}
 use Rattle.reconcile.proofs.cross.cross_rows.Tie as tie
 
 abbrev Inv-loop : tie.InvT-loop
-Inv-loop count rows₀ records theirs kept total entries₀ n₀ i₀ j₀ rows entries n i j =
+Inv-loop count rows₀ file theirs kept total entries₀ n₀ i₀ j₀ rows entries n i j =
     (i ≤ count) × (j ≤ length theirs / rowSize) × (j ≤ filedLimit * (count - i)) × (length kept ≡ listLimit) × Keeps rows entries n (pairs kept (rowsIn theirs) i j)
 
 abbrev μ-loop : tie.MeasureT-loop
-μ-loop count rows₀ records theirs kept total entries₀ n₀ i₀ j₀ rows entries n i j = (filedLimit + 1) * (count - i) + (filedLimit - j)
+μ-loop count rows₀ file theirs kept total entries₀ n₀ i₀ j₀ rows entries n i j = (filedLimit + 1) * (count - i) + (filedLimit - j)
 
 loop-holds : tie.Need-loop-holds Inv-loop μ-loop
 loop-holds c =
@@ -54,9 +54,6 @@ mul-part-in-row c = search needs
 
 part-in-row-requires : tie.Need-part-in-row-requires Inv-loop μ-loop
 part-in-row-requires c κs = search needs
-
-mul-at : tie.Need-mul-at Inv-loop μ-loop
-mul-at c = search needs
 
 add-j : tie.Need-add-j Inv-loop μ-loop
 add-j c = search needs
@@ -106,8 +103,8 @@ returns c =
     let a = m .before .before .before .before .before .before .before .before .before .args in
     turn-full (a .t1) (l .entries) (a .theirs .now) (l .rows) (l .n) (l .i) _ (l .j) _ (m .before .before .sides-of .ensures) (m .next-meeting .ensures) (l .inv .4) _ _ (search needs) (c .before .before .is-left .ensures) (p .part-in-row .ensures) (a .count) (search needs) (omega (arith, m .before .before .before .before .before .before .before .before .before .pre .0, l .inv .3)) (c .before .if2 .left) (search needs)
 
-read-entry-requires : tie.Need-read-entry-requires Inv-loop μ-loop
-read-entry-requires c κs = search needs
+entry-in-requires : tie.Need-entry-in-requires Inv-loop μ-loop
+entry-in-requires c κs = search (their-entry, needs)
 
 both-entries-requires : tie.Need-both-entries-requires Inv-loop μ-loop
 both-entries-requires c κs = search needs
@@ -146,7 +143,7 @@ loop-again-3 c =
       omega (arith, met),
       omega (arith, here, met, g .pre .1 .1 .few),
       l .inv .3,
-      turn-kept (a .t1) (l .entries) (a .theirs .now) (l .rows) (l .n) (l .i) _ (l .j) _ (m .before .before .sides-of .ensures) (m .next-meeting .ensures) (l .inv .4) _ _ met (e .before .before .before .before .is-left .ensures) (p .part-in-row .ensures) (a .records .now) _ _ _ (g .pre .1 .1) (e .before .read-entry .ensures) (e .both-entries .ensures) (e .before .before .before .if2 .left) (omega (arith, e .before .before .if3 .left)) (c .before .before .put-row .ensures),
+      turn-kept (a .t1) (l .entries) (a .theirs .now) (l .rows) (l .n) (l .i) _ (l .j) _ (m .before .before .sides-of .ensures) (m .next-meeting .ensures) (l .inv .4) _ _ met (e .before .before .before .before .is-left .ensures) (p .part-in-row .ensures) (a .file .now) _ _ _ (g .pre .1 .1) (e .before .entry-in .ensures) (e .both-entries .ensures) (e .before .before .before .if2 .left) (omega (arith, e .before .before .if3 .left)) (c .before .before .put-row .ensures),
     )
 
 same-length-2 : tie.Need-same-length-2 Inv-loop μ-loop
@@ -174,7 +171,6 @@ cross-rows-spec =
     loop-again
     mul-part-in-row
     part-in-row-requires
-    mul-at
     add-j
     mul-is-left
     sub-is-left
@@ -186,7 +182,7 @@ cross-rows-spec =
     add-t34
     same-length
     returns
-    read-entry-requires
+    entry-in-requires
     both-entries-requires
     mul-entries
     array-set-from-entries

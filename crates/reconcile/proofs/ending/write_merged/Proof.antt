@@ -18,14 +18,11 @@ left-size c =
 sub-count : tie.Need-sub-count
 sub-count c = search needs
 
-mul-size : tie.Need-mul-size
-mul-size c = search needs
-
-add-size : tie.Need-add-size
-add-size c = search needs
+file-size-requires : tie.Need-file-size-requires
+file-size-requires c κs = search needs
 
 returns : tie.Need-returns
-returns c = let a = c .before .before .args in search (narrow-made (slice (a .left .first) (a .n) (a .left .entries)) (a .buffer .now) (a .n - a .left .first) (left-size (c .before .before)))
+returns c = let a = c .before .before .before .args in search (narrow-made (slice (a .left .first) (a .n) (a .left .entries)) (a .buffer .now) (a .n - a .left .first) (left-size (c .before .before .before)))
 
 put-entries-requires : tie.Need-put-entries-requires
 put-entries-requires c κs = search needs
@@ -35,10 +32,10 @@ same-length c = search needs
 
 returns-2 : tie.Need-returns-2
 returns-2 c =
-    let g = c .before .before .before .before .before .before .before in
+    let g = c .before .before .before .before .before .before .before .before in
     search (done-made (slice (g .args .left .first) (g .args .n) (g .args .left .entries)) (g .args .buffer .now) (g .args .n - g .args .left .first) (left-size g))
 
 pub write-merged-spec : {M : Type 1} → statement M
 write-merged-spec =
     tie.close
-    (tie.spec sub-count mul-size add-size returns put-entries-requires same-length returns-2)
+    (tie.spec sub-count file-size-requires returns put-entries-requires same-length returns-2)

@@ -1,34 +1,31 @@
--- After j turns the first j records have been offered.
+-- After j turns the first j entries have been offered.
 use borrow.Author.Needs.{needs}
 use mathlib.Core.Option.{some}
 use Rattle.policy.specs.Header.{headers}
 use Rattle.reconcile.specs.Rules.{trimmed, limited}
-use Prim.Native.Nat.{ℕ, _-_, _/_, _≤_, min}
+use Prim.Native.Nat.{ℕ, _-_, _≤_, min}
 use mathlib.Core.Path.{_≡_, _∙_, ap}
-use lib.ListN.{length, take}
-use Rattle.wire.specs.Format.{recordSize, filedLimit, entriesFrom}
+use lib.ListN.{take}
+use Rattle.wire.specs.Format.{filedLimit, recordsIn, entriesFrom}
 use Rattle.reconcile.proofs.Keeping.{Keeps, keeps-none}
-use Rattle.reconcile.proofs.Staging.{first-shadowed, first-kept, first-all}
+use Rattle.reconcile.proofs.Staging.{filed-entry, first-shadowed, first-kept, first-all}
 use Rattle.reconcile.proofs.stage.first_list.Statement.{statement}
 use Rattle.reconcile.proofs.stage.first_list.Tie as tie
 
 abbrev Inv-loop : tie.InvT-loop
-Inv-loop rows₀ records entries₀ total n₀ j₀ rows entries n j = (n ≤ j) × (j ≤ total) × (total ≡ min (length records / recordSize) filedLimit) × Keeps rows entries n (take j (entriesFrom records 0 total))
+Inv-loop rows₀ file entries₀ total n₀ j₀ rows entries n j = (n ≤ j) × (j ≤ total) × (total ≡ min (recordsIn file) filedLimit) × Keeps rows entries n (take j (entriesFrom file 0 total))
 
 abbrev μ-loop : tie.MeasureT-loop
-μ-loop rows₀ records entries₀ total n₀ j₀ rows entries n j = total - j
+μ-loop rows₀ file entries₀ total n₀ j₀ rows entries n j = total - j
 
-records-in-requires : tie.Need-records-in-requires Inv-loop μ-loop
-records-in-requires c κs = search needs
+filed-count-requires : tie.Need-filed-count-requires Inv-loop μ-loop
+filed-count-requires c κs = search needs
 
 loop-holds : tie.Need-loop-holds Inv-loop μ-loop
 loop-holds c = (search needs, search needs, search needs, keeps-none _ _ (c .before .before .before .good .0 .1 .0 .1) (search needs))
 
-mul-read-entry : tie.Need-mul-read-entry Inv-loop μ-loop
-mul-read-entry c = search needs
-
-read-entry-requires : tie.Need-read-entry-requires Inv-loop μ-loop
-read-entry-requires c κs = search needs
+entry-in-requires : tie.Need-entry-in-requires Inv-loop μ-loop
+entry-in-requires c κs = search (filed-entry, needs)
 
 sides-of-requires : tie.Need-sides-of-requires Inv-loop μ-loop
 sides-of-requires c κs = search needs
@@ -83,7 +80,7 @@ loop-again-2 c =
       search needs,
       search needs,
       search needs,
-      first-kept (a .records .now) (l .rows) (l .entries) (l .n) (l .j) (k .before .before .before .before .before .before .before .before .records-in .result) _ _ _ (l .inv .3) (search needs) (k .before .before .before .before .before .read-entry .ensures) (k .before .before .before .before .sides-of .ensures) (k .is-left .ensures) _ (c .before .before .before .before .if1 .left) (search needs) (c .before .before .put-row .ensures),
+      first-kept (a .file .now) (l .rows) (l .entries) (l .n) (l .j) (k .before .before .before .before .before .before .before .before .filed-count .result) _ _ _ (l .inv .3) (search needs) (k .before .before .before .before .before .entry-in .ensures) (k .before .before .before .before .sides-of .ensures) (k .is-left .ensures) _ (c .before .before .before .before .if1 .left) (search needs) (c .before .before .put-row .ensures),
     )
 
 same-length : tie.Need-same-length Inv-loop μ-loop
@@ -93,7 +90,7 @@ returns : tie.Need-returns Inv-loop μ-loop
 returns c =
     let l = c .before .loop in
     let a = c .before .before .before .before .before .args in
-    first-all (a .records .now) (l .rows) (l .entries) (l .n) (l .j) (c .before .before .records-in .result) (l .inv .3) (search needs) ∙ ap (λ (m : ℕ). some (limited (trimmed headers (entriesFrom (a .records .now) 0 m)))) (l .inv .2)
+    first-all (a .file .now) (l .rows) (l .entries) (l .n) (l .j) (c .before .before .filed-count .result) (l .inv .3) (search needs) ∙ ap (λ (m : ℕ). some (limited (trimmed headers (entriesFrom (a .file .now) 0 m)))) (l .inv .2)
 
 pub first-list-spec : {M : Type 1} → statement M
 first-list-spec =
@@ -101,10 +98,9 @@ first-list-spec =
     (tie.spec
     Inv-loop
     μ-loop
-    records-in-requires
+    filed-count-requires
     loop-holds
-    mul-read-entry
-    read-entry-requires
+    entry-in-requires
     sides-of-requires
     add-j
     mul-is-left

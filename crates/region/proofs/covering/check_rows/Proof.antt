@@ -2,6 +2,7 @@
 use native.Mathlib.Omega.{arith}
 use Rattle.wire.specs.Format.{listLimit}
 use Rattle.region.proofs.ListChecks.{good-size, file-refused, gap-decides, list-decoded}
+use Rattle.wire.proofs.Sizes.{records-counted}
 use borrow.Author.Needs.{needs}
 use Rattle.region.proofs.covering.check_rows.Statement.{statement}
 use Rattle.region.proofs.covering.check_rows.Tie as tie
@@ -18,7 +19,7 @@ enum-known-n c = search needs
 decoded-gap-requires : tie.Need-decoded-gap-requires
 decoded-gap-requires c κs =
     let g = good-size (c .before .before .before .before .before .before .before .args .file .now) listLimit (c .before .before .before .before .check-file .result) (c .before .before .before .before .check-file .ensures) _ (c .before .before .n .given .1) in
-    (g .0, (g .1 .0, omega arith))
+    (g .0, (g .1 .0, omega (arith, records-counted (c .before .before .before .before .before .before .before .args .file .now) _ (g .0))))
 
 gap-checked-requires : tie.Need-gap-checked-requires
 gap-checked-requires c κs = search needs

@@ -6,8 +6,8 @@ use borrow.Author.Needs.{needs}
 use Rattle.region.proofs.covering.decoded_gap.Statement.{statement}
 use Rattle.region.proofs.covering.decoded_gap.Tie as tie
 
-decode-records-requires : tie.Need-decode-records-requires
-decode-records-requires c κs = search needs
+decode-entries-requires : tie.Need-decode-entries-requires
+decode-entries-requires c κs = search needs
 
 ends-with-all-requires : tie.Need-ends-with-all-requires
 ends-with-all-requires c κs = search needs
@@ -43,7 +43,7 @@ pub decoded-gap-spec : {M : Type 1} → statement M
 decoded-gap-spec =
     tie.close
     (tie.spec
-    decode-records-requires
+    decode-entries-requires
     ends-with-all-requires
     same-length
     returns

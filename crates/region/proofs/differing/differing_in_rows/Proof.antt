@@ -5,8 +5,8 @@ use borrow.Author.Needs.{needs}
 use Rattle.region.proofs.differing.differing_in_rows.Statement.{statement}
 use Rattle.region.proofs.differing.differing_in_rows.Tie as tie
 
-decode-records-requires : tie.Need-decode-records-requires
-decode-records-requires c κs = search needs
+decode-entries-requires : tie.Need-decode-entries-requires
+decode-entries-requires c κs = search needs
 
 mul-end : tie.Need-mul-end
 mul-end c = search needs
@@ -42,7 +42,7 @@ pub differing-in-rows-spec : {M : Type 1} → statement M
 differing-in-rows-spec =
     tie.close
     (tie.spec
-    decode-records-requires
+    decode-entries-requires
     mul-end
     sub-least-treated
     part-least-treated-start

@@ -1,9 +1,10 @@
--- Before each turn the records from number i on have the set; the measure is i.
+-- Before each turn the entries from number i on have the set; the measure is i.
 use Prim.Native.Nat.{_≤_}
 use native.Mathlib.Omega.{arith}
 use mathlib.Core.Path.{refl}
 use borrow.Author.Needs.{needs}
 use Rattle.policy.proofs.Bool.{clash}
+use Rattle.wire.proofs.Sizes.{next-below}
 use Rattle.region.proofs.OneSet.{FromOn, none-yet, one-before, from-first}
 use Rattle.region.proofs.differing.is_one_set.Statement.{statement}
 use Rattle.region.proofs.differing.is_one_set.Tie as tie
@@ -20,14 +21,8 @@ loop-holds c = (search needs, search none-yet)
 sub-i : tie.Need-sub-i Inv-loop μ-loop
 sub-i c = omega arith
 
-mul-read-entry : tie.Need-mul-read-entry Inv-loop μ-loop
-mul-read-entry c = omega arith
-
-add-read-entry : tie.Need-add-read-entry Inv-loop μ-loop
-add-read-entry c = omega arith
-
-read-entry-requires : tie.Need-read-entry-requires Inv-loop μ-loop
-read-entry-requires c κs = omega arith
+set-in-requires : tie.Need-set-in-requires Inv-loop μ-loop
+set-in-requires c κs = search next-below
 
 returns : tie.Need-returns Inv-loop μ-loop
 returns c = λ e. clash e refl
@@ -49,9 +44,7 @@ is-one-set-spec =
     μ-loop
     loop-holds
     sub-i
-    mul-read-entry
-    add-read-entry
-    read-entry-requires
+    set-in-requires
     returns
     loop-less
     loop-again

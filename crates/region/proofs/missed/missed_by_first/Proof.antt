@@ -1,5 +1,6 @@
--- The last records leave nothing of x, or a header that no record matches, or all are searched.
+-- The last entries leave nothing of x, or a header that no entry matches, or all are searched.
 use Rattle.region.proofs.LastEntries.{closed-by-last, missed-by-all}
+use Rattle.wire.proofs.Sizes.{last-few-there}
 use borrow.Author.Needs.{needs}
 use Rattle.region.proofs.missed.missed_by_first.Statement.{statement}
 use Rattle.region.proofs.missed.missed_by_first.Tie as tie
@@ -10,17 +11,11 @@ missed-by-few-requires c κs = search needs
 returns : tie.Need-returns
 returns c = search needs
 
-sub-at : tie.Need-sub-at
-sub-at c = search needs
-
-mul-at : tie.Need-mul-at
-mul-at c = search needs
-
-add-at : tie.Need-add-at
-add-at c = search needs
+sub-missed-by-few : tie.Need-sub-missed-by-few
+sub-missed-by-few c = search needs
 
 missed-by-few-requires-2 : tie.Need-missed-by-few-requires-2
-missed-by-few-requires-2 c κs = search needs
+missed-by-few-requires-2 c κs = (search last-few-there, search needs)
 
 enum-known-h : tie.Need-enum-known-h
 enum-known-h c = search needs
@@ -55,9 +50,7 @@ missed-by-first-spec =
     (tie.spec
     missed-by-few-requires
     returns
-    sub-at
-    mul-at
-    add-at
+    sub-missed-by-few
     missed-by-few-requires-2
     enum-known-h
     first-match-requires

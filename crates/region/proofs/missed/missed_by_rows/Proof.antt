@@ -1,12 +1,12 @@
--- The first rows are the records.
+-- The first rows are the entries.
 use Rattle.region.proofs.ListChecks.{decoded-lent}
 use Rattle.region.proofs.LastEntries.{decoded-missed}
 use borrow.Author.Needs.{needs}
 use Rattle.region.proofs.missed.missed_by_rows.Statement.{statement}
 use Rattle.region.proofs.missed.missed_by_rows.Tie as tie
 
-decode-records-requires : tie.Need-decode-records-requires
-decode-records-requires c κs = search needs
+decode-entries-requires : tie.Need-decode-entries-requires
+decode-entries-requires c κs = search needs
 
 mul-end : tie.Need-mul-end
 mul-end c = search needs
@@ -33,7 +33,7 @@ pub missed-by-rows-spec : {M : Type 1} → statement M
 missed-by-rows-spec =
     tie.close
     (tie.spec
-    decode-records-requires
+    decode-entries-requires
     mul-end
     sub-least-missed
     part-least-missed-start

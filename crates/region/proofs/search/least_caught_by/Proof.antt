@@ -1,5 +1,6 @@
 -- The part of the entry that those before it miss.
 use Rattle.region.proofs.Searching.{found-caught-by, found-by-none}
+use Rattle.wire.proofs.Sizes.{entry-there, before-there}
 use borrow.Author.Needs.{needs}
 use Rattle.region.proofs.search.least_caught_by.Statement.{statement}
 use Rattle.region.proofs.search.least_caught_by.Tie as tie
@@ -7,14 +8,8 @@ use Rattle.region.proofs.search.least_caught_by.Tie as tie
 returns : tie.Need-returns
 returns c = search found-by-none
 
-mul-read-entry : tie.Need-mul-read-entry
-mul-read-entry c = search needs
-
-add-read-entry : tie.Need-add-read-entry
-add-read-entry c = search needs
-
-read-entry-requires : tie.Need-read-entry-requires
-read-entry-requires c κs = search needs
+entry-in-requires : tie.Need-entry-in-requires
+entry-in-requires c κs = search entry-there
 
 sides-of-requires : tie.Need-sides-of-requires
 sides-of-requires c κs = search needs
@@ -26,7 +21,7 @@ part-in-row-requires : tie.Need-part-in-row-requires
 part-in-row-requires c κs = search needs
 
 missed-by-first-requires : tie.Need-missed-by-first-requires
-missed-by-first-requires c κs = search needs
+missed-by-first-requires c κs = (search before-there, (search needs, search needs))
 
 returns-2 : tie.Need-returns-2
 returns-2 c = search found-caught-by
@@ -36,9 +31,7 @@ least-caught-by-spec =
     tie.close
     (tie.spec
     returns
-    mul-read-entry
-    add-read-entry
-    read-entry-requires
+    entry-in-requires
     sides-of-requires
     slice-aggregate-part-in-row
     part-in-row-requires

@@ -8,10 +8,16 @@ use Rattle.replay.proofs.value.list.Statement.{statement}
 use Rattle.replay.proofs.value.list.Tie as tie
 
 abbrev Inv-loop : tie.InvT-loop
-Inv-loop s at count entries₀ i₀ entries i = (i ≤ 256) × (length entries ≡ 256)
+Inv-loop s at version place count entries₀ i₀ entries i = (i ≤ 256) × (length entries ≡ 256)
 
 abbrev μ-loop : tie.MeasureT-loop
-μ-loop s at count entries₀ i₀ entries i = 256 - i
+μ-loop s at version place count entries₀ i₀ entries i = 256 - i
+
+number1-requires : tie.Need-number1-requires Inv-loop μ-loop
+number1-requires c κs = search needs
+
+behind-requires : tie.Need-behind-requires Inv-loop μ-loop
+behind-requires c κs = search needs
 
 number4-requires : tie.Need-number4-requires Inv-loop μ-loop
 number4-requires c κs = search needs
@@ -52,6 +58,8 @@ list-spec =
     (tie.spec
     Inv-loop
     μ-loop
+    number1-requires
+    behind-requires
     number4-requires
     cast-count
     loop-holds

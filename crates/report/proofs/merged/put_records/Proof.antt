@@ -20,11 +20,11 @@ abbrev μ-loop : tie.MeasureT-loop
 loop-holds : tie.Need-loop-holds Inv-loop μ-loop
 loop-holds c = (search needs, search none)
 
-mul-start : tie.Need-mul-start Inv-loop μ-loop
-mul-start c = search needs
+file-size-requires : tie.Need-file-size-requires Inv-loop μ-loop
+file-size-requires c κs = search needs
 
-add-start : tie.Need-add-start Inv-loop μ-loop
-add-start c = search needs
+record-size-requires : tie.Need-record-size-requires Inv-loop μ-loop
+record-size-requires c κs = search needs
 
 add-end : tie.Need-add-end Inv-loop μ-loop
 add-end c = search needs
@@ -63,8 +63,8 @@ put-records-spec =
     Inv-loop
     μ-loop
     loop-holds
-    mul-start
-    add-start
+    file-size-requires
+    record-size-requires
     add-end
     sub-put-record
     part-put-record-start

@@ -1,7 +1,7 @@
 -- Each arm puts the lines of its answer; a merged file lies within the buffer.
 -- Assumes nothing.
 use borrow.Author.Needs.{needs}
-use Rattle.report.proofs.Outcome.{merged-fits, of-merged, of-refused-merging}
+use Rattle.report.proofs.Outcome.{merged-fits, merged-count, of-merged, of-refused-merging}
 use Rattle.report.proofs.merging.put_merging.Statement.{statement}
 use Rattle.report.proofs.merging.put_merging.Tie as tie
 
@@ -18,7 +18,7 @@ slice-aggregate-put-merged : tie.Need-slice-aggregate-put-merged
 slice-aggregate-put-merged c = search needs
 
 put-merged-requires : tie.Need-put-merged-requires
-put-merged-requires c κs = (search needs, search merged-fits)
+put-merged-requires c κs = (search needs, (search (merged-count, needs), search merged-fits))
 
 enum-known-answer-2 : tie.Need-enum-known-answer-2
 enum-known-answer-2 c = search needs

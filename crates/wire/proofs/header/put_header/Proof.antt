@@ -1,4 +1,4 @@
--- The 13 bytes go to the start, or the buffer stays as it is.
+-- The 14 bytes go to the start, or the buffer stays as it is.
 -- Assumes nothing.
 use Rattle.wire.proofs.PutHeader.{header-put, header-kept}
 use borrow.Author.Needs.{needs}

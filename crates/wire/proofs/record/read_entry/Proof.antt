@@ -1,97 +1,59 @@
--- Each number is read at its place in the record.
+-- The version says whether there is a direction, and where the action set stands.
+use native.Mathlib.Omega.{arith}
+use Rattle.wire.proofs.Sizes.{size-one, size-other, record-of-one, record-of-other}
 use borrow.Author.Needs.{needs}
 use Rattle.wire.proofs.record.read_entry.Statement.{statement}
 use Rattle.wire.proofs.record.read_entry.Tie as tie
-
-read4-requires : tie.Need-read4-requires
-read4-requires c κs = search needs
-
-add-read4 : tie.Need-add-read4
-add-read4 c = search needs
-
-read4-requires-2 : tie.Need-read4-requires-2
-read4-requires-2 c κs = search needs
-
-add-read4-2 : tie.Need-add-read4-2
-add-read4-2 c = search needs
-
-read4-requires-3 : tie.Need-read4-requires-3
-read4-requires-3 c κs = search needs
-
-add-read4-3 : tie.Need-add-read4-3
-add-read4-3 c = search needs
-
-read4-requires-4 : tie.Need-read4-requires-4
-read4-requires-4 c κs = search needs
 
 add-read2 : tie.Need-add-read2
 add-read2 c = search needs
 
 read2-requires : tie.Need-read2-requires
-read2-requires c κs = search needs
+read2-requires c κs = omega (arith, size-one (c .before .before .args .version) (c .if1 .taken))
+
+read-with-requires : tie.Need-read-with-requires
+read-with-requires c κs = omega (arith, size-one (c .before .before .before .args .version) (c .before .if1 .taken))
+
+returns : tie.Need-returns
+returns c = search record-of-one
+
+add-read-with : tie.Need-add-read-with
+add-read-with c = search needs
+
+shared-slice-read-read-with : tie.Need-shared-slice-read-read-with
+shared-slice-read-read-with c = omega (arith, size-other (c .before .before .before .args .version) (c .before .if1 .left))
+
+add-read-with-2 : tie.Need-add-read-with-2
+add-read-with-2 c = search needs
+
+shared-slice-read-read-with-2 : tie.Need-shared-slice-read-read-with-2
+shared-slice-read-read-with-2 c = omega (arith, size-other (c .before .before .before .before .args .version) (c .before .before .if1 .left))
 
 add-read2-2 : tie.Need-add-read2-2
 add-read2-2 c = search needs
 
 read2-requires-2 : tie.Need-read2-requires-2
-read2-requires-2 c κs = search needs
+read2-requires-2 c κs = omega (arith, size-other (c .before .before .before .before .args .version) (c .before .before .if1 .left))
 
-add-read2-3 : tie.Need-add-read2-3
-add-read2-3 c = search needs
+read-with-requires-2 : tie.Need-read-with-requires-2
+read-with-requires-2 c κs = omega (arith, size-other (c .before .before .before .before .before .args .version) (c .before .before .before .if1 .left))
 
-read2-requires-3 : tie.Need-read2-requires-3
-read2-requires-3 c κs = search needs
-
-add-read2-4 : tie.Need-add-read2-4
-add-read2-4 c = search needs
-
-read2-requires-4 : tie.Need-read2-requires-4
-read2-requires-4 c κs = search needs
-
-add-t18 : tie.Need-add-t18
-add-t18 c = search needs
-
-shared-slice-read-t20 : tie.Need-shared-slice-read-t20
-shared-slice-read-t20 c = search needs
-
-add-t21 : tie.Need-add-t21
-add-t21 c = search needs
-
-shared-slice-read-t23 : tie.Need-shared-slice-read-t23
-shared-slice-read-t23 c = search needs
-
-add-read2-5 : tie.Need-add-read2-5
-add-read2-5 c = search needs
-
-read2-requires-5 : tie.Need-read2-requires-5
-read2-requires-5 c κs = search needs
-
-returns : tie.Need-returns
-returns c = simp (c .before .before .before .before .before .before .before .before .before .before .read4 .ensures, c .before .before .before .before .before .before .before .before .before .read42 .ensures, c .before .before .before .before .before .before .before .before .read43 .ensures, c .before .before .before .before .before .before .before .read44 .ensures, c .before .before .before .before .before .before .read2 .ensures, c .before .before .before .before .before .read22 .ensures, c .before .before .before .before .read23 .ensures, c .before .before .before .read24 .ensures, c .read25 .ensures)
+returns-2 : tie.Need-returns-2
+returns-2 c = search record-of-other
 
 pub read-entry-spec : {M : Type 1} → statement M
 read-entry-spec =
     tie.close
     (tie.spec
-    read4-requires
-    add-read4
-    read4-requires-2
-    add-read4-2
-    read4-requires-3
-    add-read4-3
-    read4-requires-4
     add-read2
     read2-requires
+    read-with-requires
+    returns
+    add-read-with
+    shared-slice-read-read-with
+    add-read-with-2
+    shared-slice-read-read-with-2
     add-read2-2
     read2-requires-2
-    add-read2-3
-    read2-requires-3
-    add-read2-4
-    read2-requires-4
-    add-t18
-    shared-slice-read-t20
-    add-t21
-    shared-slice-read-t23
-    add-read2-5
-    read2-requires-5
-    returns)
+    read-with-requires-2
+    returns-2)
