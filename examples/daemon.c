@@ -1,10 +1,10 @@
 /*
  * A daemon's use of the library, as small as it can be: load lists, answer lookups, compare.
  *
- *     daemon lookup FILE LOCAL REMOTE LOCAL-PORT REMOTE-PORT PROTOCOL [LOCAL ...]
+ *     daemon lookup FILE LOCAL REMOTE LOCAL-PORT REMOTE-PORT PROTOCOL in|out [LOCAL ...]
  *     daemon compare FILE FILE
  *
- * Addresses are written 10.1.2.3, the other numbers in decimal; five words for each lookup. A lookup
+ * Addresses are written 10.1.2.3, the other numbers in decimal; six words for each lookup. A lookup
  * prints a line: the number of the catching entry and the actions of its record, the protections by
  * their bits, or "uncaught".
  * A comparison prints whether the first list refines the second, and if not, the least header where
@@ -20,7 +20,7 @@
 
 #include <dunnarek/policy.h>
 
-#define WORDS 5 /* of a header */
+#define WORDS 6 /* of a header */
 
 struct list {
     size_t length;
@@ -62,6 +62,13 @@ static int read_address(const char *word, uint32_t *address)
     return 1;
 }
 
+/* Reads a direction; returns 0 for anything else. */
+static int read_direction(const char *word, uint8_t *direction)
+{
+    *direction = strcmp(word, "out") == 0 ? POLICY_OUT : POLICY_IN;
+    return *direction == POLICY_OUT || strcmp(word, "in") == 0;
+}
+
 /* Loads a file; complains and returns 0 if it can't be read. */
 static int load(const char *path, struct list *list)
 {
@@ -84,11 +91,11 @@ static const char *refusal_words(uint32_t refusal)
     case POLICY_MISSIZED:
         return "its length is not the one that it states";
     case POLICY_VERSION:
-        return "its version is not 1";
+        return "its version is not 1 or 2";
     case POLICY_COUNT:
         return "its number of entries is not 1 to 256, or not the one that it has";
     case POLICY_CROSSED:
-        return "an entry has a low above its high";
+        return "an entry has a low above its high, or a direction above 1";
     case POLICY_GAP:
         return "some header is caught by no entry";
     default:
@@ -127,29 +134,30 @@ static void print_actions(unsigned actions)
     printf("\n");
 }
 
-/* Looks up the header of five words; returns the program's exit status so far. */
+/* Looks up the header of six words; returns the program's exit status so far. */
 static int look_up(const char *path, const struct list *list, char **words)
 {
     uint32_t local, remote, entry;
     unsigned long local_port, remote_port, protocol;
+    uint8_t direction;
     const uint8_t *actions;
 
     if (!read_address(words[0], &local) || !read_address(words[1], &remote) ||
         !read_number(words[2], 65535, &local_port) || !read_number(words[3], 65535, &remote_port) ||
-        !read_number(words[4], 255, &protocol)) {
-        fprintf(stderr, "daemon: no header: %s %s %s %s %s\n",
-                words[0], words[1], words[2], words[3], words[4]);
+        !read_number(words[4], 255, &protocol) || !read_direction(words[5], &direction)) {
+        fprintf(stderr, "daemon: no header: %s %s %s %s %s %s\n",
+                words[0], words[1], words[2], words[3], words[4], words[5]);
         return 2;
     }
-    entry = policy_lookup(list->bytes, list->length, local, remote,
-                          (uint16_t)local_port, (uint16_t)remote_port, (uint8_t)protocol);
+    entry = policy_lookup(list->bytes, list->length, local, remote, (uint16_t)local_port,
+                          (uint16_t)remote_port, (uint8_t)protocol, direction);
     if (policy_lookup_refusal(entry) != 0)
         return refuse(path, policy_lookup_refusal(entry));
     if (entry == POLICY_UNCAUGHT) {
         puts("uncaught");
         return 0;
     }
-    actions = list->bytes + POLICY_ACTIONS_AT(entry);
+    actions = list->bytes + POLICY_ACTIONS_AT(list->bytes[POLICY_VERSION_AT], entry);
     printf("entry %lu: ", (unsigned long)entry);
     print_actions(actions[0] * 256u + actions[1]);
     return 0;
@@ -168,8 +176,9 @@ static int compare(char **paths, const struct list *first, const struct list *se
         puts("refines");
         return 0;
     }
-    printf("does not refine at local %d.%d.%d.%d port %d, remote %d.%d.%d.%d port %d, protocol %d\n",
-           h[0], h[1], h[2], h[3], h[8] * 256 + h[9], h[4], h[5], h[6], h[7], h[10] * 256 + h[11], h[12]);
+    printf("does not refine at local %d.%d.%d.%d port %d, remote %d.%d.%d.%d port %d, protocol %d, %s\n",
+           h[0], h[1], h[2], h[3], h[8] * 256 + h[9], h[4], h[5], h[6], h[7], h[10] * 256 + h[11], h[12],
+           h[13] == POLICY_OUT ? "out" : "in");
     return 0;
 }
 
@@ -188,7 +197,7 @@ int main(int argc, char **argv)
         for (at = 3; at < argc && status == 0; at += WORDS)
             status = look_up(argv[2], &first, argv + at);
     } else {
-        fprintf(stderr, "usage: daemon lookup FILE LOCAL REMOTE LOCAL-PORT REMOTE-PORT PROTOCOL ...\n"
+        fprintf(stderr, "usage: daemon lookup FILE LOCAL REMOTE LOCAL-PORT REMOTE-PORT PROTOCOL in|out ...\n"
                         "       daemon compare FILE FILE\n");
         return 2;
     }

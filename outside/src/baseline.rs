@@ -1,43 +1,63 @@
 //! The daemon's calls, the program's merging and installing in Rust, by the product's algorithm, for
 //! measuring.
 
-use crate::entry::{file, header_bytes, is_header, Box5, Entry, Header, List};
+use crate::entry::{file, header_bytes, is_header, Box6, Entry, Header, List, HEADER, OUT, RECORD};
 use crate::merge::{install, merge, Form, Merged};
 use crate::model::Want;
-use crate::search::{are_proper, common_part, decode, differing, gap, lookup_packed};
-use crate::search::{missed_by_first, unrefined, Decoded, Lists, Packed, LAST};
+use crate::search::{are_proper, common_part, decode, differing, gap, is_proper, lengthened};
+use crate::search::{
+    lookup_packed, missed_by_first, unrefined, Decoded, Lists, Packed, LAST, SHORT,
+};
+use std::borrow::Cow;
 
-/// The records of a file that passes checks 1 to 4, else the refusal's number.
-pub fn records(file: &[u8], limit: usize) -> Result<&[u8], u32> {
+/// A file that passes checks 1 to 4: how many bytes a record has, and the records. Else the refusal's
+/// number.
+#[inline(always)]
+fn checked(file: &[u8], limit: usize) -> Result<(usize, &[u8]), u32> {
     if file.len() < 5 || file.len() != u16::from_be_bytes([file[0], file[1]]) as usize + 2 {
         return Err(1);
     }
-    if file[2] != 1 {
-        return Err(2);
-    }
+    let size = match file[2] {
+        1 => SHORT,
+        2 => RECORD,
+        _ => return Err(2),
+    };
     let n = u16::from_be_bytes([file[3], file[4]]) as usize;
-    if n < 1 || n > limit || file.len() - 5 != 28 * n {
+    if n < 1 || n > limit || file.len() - 5 != size * n {
         return Err(3);
     }
     let records = &file[5..];
-    if !are_proper(records) {
+    let proper =
+        if size == SHORT { are_proper::<SHORT>(records) } else { are_proper::<RECORD>(records) };
+    if !proper {
         return Err(4);
     }
-    Ok(records)
+    Ok((size, records))
+}
+
+/// The records of a file that passes checks 1 to 4, as version 2 has them; those of version 1 are
+/// copied for it. Else the refusal's number.
+pub fn records(file: &[u8], limit: usize) -> Result<Cow<'_, [u8]>, u32> {
+    Ok(match checked(file, limit)? {
+        (SHORT, records) => lengthened(records).into(),
+        (_, records) => records.into(),
+    })
 }
 
 #[inline(never)]
 pub fn lookup(file: &[u8], h: &Header) -> u32 {
-    match records(file, 256) {
-        Ok(records) if is_header(h) => lookup_packed(records, h).unwrap_or(256) as u32,
-        Ok(_) => 256,
-        Err(refusal) => 256 + refusal,
-    }
+    let found = match checked(file, 256) {
+        Err(refusal) => return 256 + refusal,
+        Ok(_) if !is_header(h) => None,
+        Ok((SHORT, records)) => lookup_packed::<SHORT>(records, h),
+        Ok((_, records)) => lookup_packed::<RECORD>(records, h),
+    };
+    found.unwrap_or(256) as u32
 }
 
-fn covering(file: &[u8]) -> Result<&[u8], u32> {
+fn covering(file: &[u8]) -> Result<Cow<'_, [u8]>, u32> {
     let records = records(file, 256)?;
-    match gap(&Packed { lists: [records, &[]] }, &mut 0) {
+    match gap(&Packed { lists: [&records, &[]] }, &mut 0) {
         Some(_) => Err(5),
         None => Ok(records),
     }
@@ -47,8 +67,8 @@ fn answer(lists: &impl Lists, header: &mut [u8], boxes: &mut u64) -> u32 {
     match unrefined(lists, boxes) {
         None => 0,
         Some(h) => {
-            if header.len() >= 13 {
-                header[..13].copy_from_slice(&header_bytes(&h));
+            if header.len() >= HEADER {
+                header[..HEADER].copy_from_slice(&header_bytes(&h));
             }
             1
         }
@@ -60,14 +80,14 @@ pub fn compare(first: &[u8], second: &[u8], header: &mut [u8]) -> u32 {
     match (covering(first), covering(second)) {
         (Err(refusal), _) => 256 + refusal,
         (_, Err(refusal)) => 512 + refusal,
-        (Ok(first), Ok(second)) => answer(&Packed { lists: [first, second] }, header, &mut 0),
+        (Ok(first), Ok(second)) => answer(&Packed { lists: [&first, &second] }, header, &mut 0),
     }
 }
 
 /// Comparison over decoded entries, decoding counted.
 pub fn compare_decoded(first: &[u8], second: &[u8], header: &mut [u8]) -> u32 {
     let covering = |file| {
-        let list = decode(records(file, 256)?);
+        let list = decode(&records(file, 256)?);
         match gap(&Decoded { lists: [&list, &[]] }, &mut 0) {
             Some(_) => Err(5),
             None => Ok(list),
@@ -87,6 +107,7 @@ pub struct Unpacked {
     addresses: [[u32; 2]; 2],
     ports: [[u16; 2]; 2],
     protocols: [u8; 2],
+    directions: [u8; 2],
     actions: u16,
 }
 
@@ -98,6 +119,7 @@ pub fn unpack(list: &[Entry]) -> Vec<Unpacked> {
                 addresses: [range(0), range(1)],
                 ports: [range(2).map(|x| x as u16), range(3).map(|x| x as u16)],
                 protocols: range(4).map(|x| x as u8),
+                directions: range(5).map(|x| x as u8),
                 actions: e.actions,
             }
         })
@@ -120,6 +142,8 @@ pub fn lookup_unpacked(table: &[Unpacked], h: &Header) -> u32 {
             && within(e.ports[0], h[2])
             && within(e.ports[1], h[3])
             && within(e.protocols, h[4])
+            && within(e.directions, h[5])
+            && e.directions[1] <= OUT as u8
         {
             return i as u32;
         }
@@ -139,8 +163,8 @@ pub fn filed(input: &[u8]) -> Vec<List> {
         };
         let party = input[at];
         if let (1..=8, Ok(records)) = (party, records(&rest[..length], 32)) {
-            if gap(&Packed { lists: [records, &[]] }, &mut 0).is_none() {
-                slots[party as usize - 1] = Some(decode(records));
+            if gap(&Packed { lists: [&records, &[]] }, &mut 0).is_none() {
+                slots[party as usize - 1] = Some(decode(&records));
             }
         }
         at += 1 + length;
@@ -148,8 +172,12 @@ pub fn filed(input: &[u8]) -> Vec<List> {
     slots.into_iter().flatten().collect()
 }
 
-/// The least header of a box that a list treats in a wanted way.
-pub fn search(lists: &impl Lists, within: &Box5, want: Want, boxes: &mut u64) -> Option<Header> {
+/// The least header of a box that a list treats in a wanted way. What a box has in common with an entry
+/// may be proper though the box is not: its directions may end above 1.
+pub fn search(lists: &impl Lists, within: &Box6, want: Want, boxes: &mut u64) -> Option<Header> {
+    if !is_proper(within) {
+        return None;
+    }
     let n = lists.count(0);
     match want {
         Want::Uncaught => missed_by_first(lists, n, within, LAST, boxes),

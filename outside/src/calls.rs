@@ -1,10 +1,10 @@
 //! Lists of calls for the replay, from fixed seeds: every call, accepted and refused in every way.
 
-use crate::entry::{file, Entry, Header, List, ALL, RECORD};
+use crate::entry::{both_ways, file_in, Entry, Header, List, ALL, RECORD, VERSIONS};
 use crate::generate::{
-    any_list, box_near, cross_one, crowd, damaged, header_near, long_list, realistic_list,
-    related_list, small_list, some_file, some_list, some_party, some_ranking, some_sets, Filings,
-    Sets, RISING,
+    any_list, box_near, cross_one, crowd, damaged, file_in_some_version, header_near,
+    leave_directions, long_list, realistic_list, related_list, small_list, some_file, some_list,
+    some_party, some_ranking, some_sets, Filings, Sets, RISING,
 };
 use crate::model::{catching, Bench, Refusal, LIST_LIMIT, LONGEST_FILE};
 use crate::random::Random;
@@ -20,7 +20,7 @@ pub fn bench_calls(random: &mut Random) -> Vec<Call> {
                 let list = small_list(random.between(1, 5) as usize, sets, random);
                 let bytes = match random.below(6) {
                     0 => damaged(&list, random),
-                    _ => file(&list),
+                    _ => file_in_some_version(&list, random),
                 };
                 Call::File { party: some_party(parties, random), file: Bytes(bytes) }
             }
@@ -172,7 +172,8 @@ impl Made<'_> {
     fn file_each(&mut self) {
         for party in 1..=self.filings.parties as u8 {
             let list = self.filings.list(self.random);
-            self.push(Call::File { party, file: Bytes(file(&list)) });
+            let bytes = file_in_some_version(&list, self.random);
+            self.push(Call::File { party, file: Bytes(bytes) });
         }
     }
 
@@ -187,7 +188,8 @@ impl Made<'_> {
         let mut filed: Vec<(u8, List)> = parties.into_iter().zip(lists).collect();
         self.random.shuffle(&mut filed);
         for (party, list) in filed {
-            self.push(Call::File { party, file: Bytes(file(&list)) });
+            let bytes = file_in_some_version(&list, self.random);
+            self.push(Call::File { party, file: Bytes(bytes) });
         }
         let merging = self.merging();
         self.push(merging);
@@ -224,8 +226,11 @@ fn room(needed: usize, random: &mut Random) -> Buffer {
 /// A file of no entries, or with a count at or beside the limits.
 fn file_at_limit(random: &mut Random) -> Vec<u8> {
     match *random.pick(&[0, 1, 31, 32, 32, 33, 33, 255, 256, 257]) {
-        0 => file(&[]),
-        n => file(&realistic_list(n, Sets::With(4), random)),
+        0 => file_in_some_version(&[], random),
+        n => {
+            let list = realistic_list(n, Sets::With(4), random);
+            file_in(*random.pick(&VERSIONS), &list)
+        }
     }
 }
 
@@ -234,7 +239,7 @@ fn file_at_limit(random: &mut Random) -> Vec<u8> {
 fn doubly_damaged(list: &[Entry], random: &mut Random) -> Vec<u8> {
     let mut bytes = damaged(list, random);
     match random.below(4) {
-        0 if bytes.len() > 2 => bytes[2] = 2,
+        0 if bytes.len() > 2 => bytes[2] = *random.pick(&[0, 3]),
         1 if bytes.len() > 4 => bytes[4] ^= 1,
         2 if bytes.len() > 1 => bytes[1] ^= 1,
         _ => drop(bytes.pop()),
@@ -260,6 +265,14 @@ fn rewriting(random: &mut Random) -> Call {
 /// Counts past 256, some of which look smaller in fewer bits.
 const LONG_COUNTS: [usize; 7] = [257, 258, 512, 0x1_0001, 0x1_0100, 0x8000_0001, 0xffff_ffff];
 
+/// Mostly a version, now and then a byte that is none.
+fn some_version(random: &mut Random) -> u8 {
+    match random.below(8) {
+        0 => *random.pick(&[0, 3, 4, 255]),
+        _ => *random.pick(&VERSIONS),
+    }
+}
+
 fn writing(random: &mut Random) -> Call {
     let (count, mut list) = match random.below(12) {
         0 => (0, vec![]),
@@ -273,10 +286,16 @@ fn writing(random: &mut Random) -> Call {
             (list.len(), list)
         }
     };
+    let version = some_version(random);
+    // Version 1 turns down most of the others.
+    if version == 1 && !random.one_in(3) {
+        list = both_ways(&list);
+    }
     if !list.is_empty() && random.one_in(4) {
         cross_one(&mut list, random);
     }
-    Call::Write { count, buffer: room(5 + RECORD * list.len(), random), list }
+    let buffer = room(file_in(version, &list).len(), random);
+    Call::Write { version, count, list, buffer }
 }
 
 /// A file and a header to look up in it.
@@ -303,7 +322,10 @@ fn table_lookup(random: &mut Random) -> Call {
         cross_one(&mut table, random);
     }
     if let Some(i) = catching(&table, &header).filter(|_| random.one_in(3)) {
-        turn_round(&mut table[i]);
+        match random.one_in(2) {
+            true => turn_round(&mut table[i]),
+            false => leave_directions(&mut table[i].selector, random),
+        }
     }
     Call::LookupInTable { table, header }
 }
@@ -325,7 +347,7 @@ fn compared(random: &mut Random) -> (Bytes, Bytes) {
 
 fn comparison_in_c(random: &mut Random) -> Call {
     let (first, second) = compared(random);
-    let length = *random.pick(&[0, 1, 12, 12, 13, 13, 14, 14, 26, 64]);
+    let length = *random.pick(&[0, 1, 13, 13, 14, 14, 15, 15, 28, 64]);
     Call::CompareInC { first, second, buffer: Buffer { length, fill: random.next() as u8 } }
 }
 

@@ -3,7 +3,7 @@
 //! order of headers, remembering the sets of entries that were walked from before. Ports and protocols
 //! are cut also where headers are told from other combinations.
 
-use crate::entry::{Box5, Entry, Header, List, FIELDS, TOP};
+use crate::entry::{Box6, Entry, Header, List, FIELDS, TOP};
 use crate::entry::{LOCAL_PORT, PROTOCOL, REMOTE_PORT, WITH_PORTS};
 use crate::merge::{best_of, Merged};
 use crate::model::header_cuts;
@@ -66,7 +66,7 @@ pub struct TooMany;
 
 impl Cells {
     /// The lists' cells within a box.
-    pub fn new(lists: [&[Entry]; 2], within: &Box5, limit: usize) -> Cells {
+    pub fn new(lists: [&[Entry]; 2], within: &Box6, limit: usize) -> Cells {
         let numbered = || {
             let second = lists[1].iter().enumerate().map(|(i, e)| (SECOND + i, e));
             lists[0].iter().enumerate().chain(second)

@@ -1,6 +1,6 @@
 //! The daemon's two calls on generated files, valid and damaged, short and long, against the model.
 
-use crate::entry::{is_header, Header};
+use crate::entry::{is_header, Header, DIRECTION, HEADER, OUT};
 use crate::generate::{header_near, related_list, some_file, some_list};
 use crate::model;
 use crate::random::Random;
@@ -16,7 +16,8 @@ pub fn lookups(
     random: &mut Random,
     lookup: &dyn Fn(&[u8], &Header) -> u32,
 ) {
-    let (mut answers, mut no_headers) = ([0usize; 3], 0);
+    let (mut answers, mut no_headers, mut no_directions) = ([0usize; 3], 0, 0);
+    let mut versions = [0usize; 2];
     let end = cases.count + wanted;
     while cases.count < end {
         let list = some_list(random);
@@ -25,14 +26,19 @@ pub fn lookups(
             let header = header_near(&list, random);
             let expected = model::lookup_number(&bytes, &header);
             no_headers += (expected == 256 && !is_header(&header)) as usize;
+            no_directions += (expected == 256 && header[DIRECTION] > OUT) as usize;
+            if expected <= 256 {
+                versions[bytes[2] as usize - 1] += 1;
+            }
             answers[(expected.clamp(255, 257) - 255) as usize] += 1;
             let case = || format!("lookup of {header:?} in {}", hexadecimal(&bytes));
             cases.same(lookup(&bytes, &header), expected, case);
         }
     }
     println!(
-        "  lookups: {} caught, {} uncaught ({no_headers} of no header), {} refused",
-        answers[0], answers[1], answers[2]
+        "  lookups: {} caught, {} uncaught ({no_headers} of no header, {no_directions} of these of no \
+         direction), {} refused; {} in files of version 1, {} of version 2",
+        answers[0], answers[1], answers[2], versions[0], versions[1]
     );
 }
 
@@ -43,7 +49,7 @@ pub fn comparisons(
     random: &mut Random,
     compare: &dyn Fn(&[u8], &[u8], &mut [u8]) -> u32,
 ) {
-    let mut answers = [0usize; 3];
+    let (mut answers, mut out) = ([0usize; 3], 0);
     let end = cases.count + wanted;
     while cases.count < end {
         let list = some_list(random);
@@ -54,13 +60,15 @@ pub fn comparisons(
         let first = some_file(&list, random).into_boxed_slice();
         let second = some_file(&other, random).into_boxed_slice();
 
-        let length = *random.pick(&[0, 1, 12, 13, 13, 14, 26, 64]);
+        let length = *random.pick(&[0, 1, 13, 14, 14, 15, 28, 64]);
         let mut lent = vec![CANARY; CANARIES + length + CANARIES];
         let middle = CANARIES..CANARIES + length;
         lent[middle.clone()].iter_mut().for_each(|b| *b = random.next() as u8);
         let mut expected_bytes = lent.clone();
         let expected = model::compare_number(&first, &second, &mut expected_bytes[middle.clone()]);
         answers[expected.min(2) as usize] += 1;
+        let last = expected_bytes[middle.clone()].get(HEADER - 1);
+        out += (expected == 1 && last == Some(&(OUT as u8))) as usize;
 
         let (first_copy, second_copy) = (first.clone(), second.clone());
         let answer = compare(&first, &second, &mut lent[middle]);
@@ -73,5 +81,8 @@ pub fn comparisons(
             case,
         );
     }
-    println!("  comparisons: {} refine, {} don't, {} refused", answers[0], answers[1], answers[2]);
+    println!(
+        "  comparisons: {} refine, {} don't ({out} out), {} refused",
+        answers[0], answers[1], answers[2]
+    );
 }

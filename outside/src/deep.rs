@@ -2,8 +2,9 @@
 //! stack.
 
 use crate::baseline::filed;
-use crate::entry::{file, Box5, Entry, ALL, FIELDS, TOP};
+use crate::entry::{file, Box6, Entry, ALL, DIRECTION, FIELDS, PROTOCOL, TOP};
 use crate::generate::{family, Closing, Shape, CLOSINGS, SHAPES};
+use crate::model::LONGEST_FILE;
 use crate::random::Random;
 use crate::search::trimmed;
 use crate::stack::Painted;
@@ -15,8 +16,8 @@ const MANY: usize = 1000;
 
 // ---------------------------------------------------------------- boxes
 
-/// `n` slabs across field `f`, side by side, that cover all headers.
-fn slabs(f: usize, n: usize) -> Vec<Box5> {
+/// `n` slabs across field `f`, side by side, that cover all headers. There are too few directions for it.
+fn slabs(f: usize, n: usize) -> Vec<Box6> {
     let end = |i: usize| ((TOP[f] as u64 + 1) * i as u64 / n as u64) as u32;
     let slab = |i: usize| {
         let mut b = ALL;
@@ -27,7 +28,7 @@ fn slabs(f: usize, n: usize) -> Vec<Box5> {
 }
 
 /// Slabs across field `f` that come up to more, or to less, of field `g` from one to the next.
-fn ladder(f: usize, g: usize, n: usize, grows: bool) -> Vec<Box5> {
+fn ladder(f: usize, g: usize, n: usize, grows: bool) -> Vec<Box6> {
     let mut boxes = slabs(f, n);
     for (i, b) in boxes.iter_mut().enumerate() {
         let step = if grows { i } else { n - 1 - i };
@@ -36,11 +37,11 @@ fn ladder(f: usize, g: usize, n: usize, grows: bool) -> Vec<Box5> {
     boxes
 }
 
-fn length(b: &Box5, f: usize) -> u128 {
+fn length(b: &Box6, f: usize) -> u128 {
     b.high[f] as u128 - b.low[f] as u128 + 1
 }
 
-fn volume(b: &Box5) -> u128 {
+fn volume(b: &Box6) -> u128 {
     (0..FIELDS).map(|f| length(b, f)).product()
 }
 
@@ -48,9 +49,9 @@ fn volume(b: &Box5) -> u128 {
 /// above it in another field and not in `f`, which is the smaller one, trimmed as the search does it.
 struct Cut {
     f: usize,
-    row: Box5,
-    larger: Box5,
-    smaller: Box5,
+    row: Box6,
+    larger: Box6,
+    smaller: Box6,
 }
 
 /// Where a cut leaves the most in the smaller part.
@@ -75,10 +76,20 @@ fn row_lengths(leaving: Leaving, n: u128, m: u128, is_first: bool) -> (u128, u12
     }
 }
 
-fn cuts(x: &Box5, leaving: Leaving) -> Vec<Cut> {
+/// All cuts of a box, in its directions only where no others are left: this gives the most levels.
+fn cuts(x: &Box6, leaving: Leaving) -> Vec<Cut> {
+    let others = cuts_in(DIRECTION, x, leaving);
+    if others.is_empty() {
+        return cuts_in(FIELDS, x, leaving);
+    }
+    others
+}
+
+/// The cuts in the first so many fields.
+fn cuts_in(fields: usize, x: &Box6, leaving: Leaving) -> Vec<Cut> {
     let mut cuts = vec![];
-    for f in 0..FIELDS {
-        for g in (0..FIELDS).filter(|g| *g != f) {
+    for f in 0..fields {
+        for g in (0..fields).filter(|g| *g != f) {
             let (n, m) = (length(x, f), length(x, g));
             let (in_f, in_g) = row_lengths(leaving, n, m, f > g);
             if in_f == 0 || in_f == n || in_g == m {
@@ -100,8 +111,8 @@ fn cuts(x: &Box5, leaving: Leaving) -> Vec<Cut> {
 /// All headers in parts, against a search that goes on with the largest part of a box and calls itself
 /// for the others: again and again a row and the larger part, and the smaller one is cut on. So many
 /// cuts leave half, the others a quarter. Each goes by what the next one leaves; halving alone comes to
-/// 101 levels, of at most 103.
-fn halver(halving: usize, levels: usize) -> Vec<Box5> {
+/// 102 levels, of at most 105.
+fn halver(halving: usize, levels: usize) -> Vec<Box6> {
     let mut x = ALL;
     let mut boxes = vec![];
     for level in 0..levels {
@@ -124,7 +135,7 @@ fn halver(halving: usize, levels: usize) -> Vec<Box5> {
 /// in which it goes on with the largest one. The rows that hold a corner, each longer than the one
 /// before in fields 1 and 0 and cut in one of the others, meet both parts of every box before their
 /// own; beside each stands one that meets the part in field 0 alone.
-fn crowder(halved: u32, levels: usize) -> Vec<Box5> {
+fn crowder(halved: u32, levels: usize) -> Vec<Box6> {
     let mut x = ALL;
     let mut boxes = vec![];
     for _ in 0..halved {
@@ -145,7 +156,7 @@ fn crowder(halved: u32, levels: usize) -> Vec<Box5> {
         (beside.high[2], beside.high[3], beside.high[4]) = (0, 0, 0);
         boxes.extend([row, beside]);
     }
-    for f in 2..FIELDS {
+    for f in 2..DIRECTION {
         let mut b = whole;
         b.low[f] = ends[f] + 1;
         boxes.push(b);
@@ -165,8 +176,8 @@ pub struct Family {
 }
 
 /// The boxes as a list's file: the set of all entries but the last, and the set of the last.
-fn with_sets(boxes: &[Box5], others: u16, last: u16) -> Vec<u8> {
-    let entry = |(i, b): (usize, &Box5)| {
+fn with_sets(boxes: &[Box6], others: u16, last: u16) -> Vec<u8> {
+    let entry = |(i, b): (usize, &Box6)| {
         let actions = if i + 1 < boxes.len() { others } else { last };
         Entry { selector: *b, actions }
     };
@@ -175,29 +186,29 @@ fn with_sets(boxes: &[Box5], others: u16, last: u16) -> Vec<u8> {
 
 /// Two lists of which only the last entries differ in what they allow: all the others stand before
 /// what is searched.
-fn last_apart(first: &[Box5], second: &[Box5]) -> Pair {
+fn last_apart(first: &[Box6], second: &[Box6]) -> Pair {
     (with_sets(first, 0, 1), with_sets(second, 1, 0))
 }
 
 /// The same boxes, agreeing; the last entry of the second apart from all of the first; only the last
 /// ones apart.
-fn three_ways(first: &[Box5], second: &[Box5]) -> [Pair; 3] {
+fn three_ways(first: &[Box6], second: &[Box6]) -> [Pair; 3] {
     let (agreeing, apart) = (with_sets(second, 1, 1), with_sets(second, 1, 0));
     let all = with_sets(first, 1, 1);
     [(all.clone(), agreeing), (all, apart), last_apart(first, second)]
 }
 
-fn closed(boxes: impl Iterator<Item = Box5>) -> Vec<Box5> {
+fn closed(boxes: impl Iterator<Item = Box6>) -> Vec<Box6> {
     boxes.take(LIMIT - 1).chain([ALL]).collect()
 }
 
 /// Every second box, closed by ALL.
-fn dealt(boxes: &[Box5]) -> [Vec<Box5>; 2] {
+fn dealt(boxes: &[Box6]) -> [Vec<Box6>; 2] {
     [0, 1].map(|k| closed(boxes.iter().copied().skip(k).step_by(2)))
 }
 
 /// The boxes closed by ALL, against themselves and against ALL; and dealt to two lists.
-fn one_and_two(boxes: &[Box5]) -> Vec<Pair> {
+fn one_and_two(boxes: &[Box6]) -> Vec<Pair> {
     let (all, [even, odd]) = (closed(boxes.iter().copied()), dealt(boxes));
     let pairs = [(&all[..], &all[..]), (&all, &[ALL]), (&[ALL], &all), (&even, &odd)];
     pairs.into_iter().flat_map(|(first, second)| three_ways(first, second)).collect()
@@ -205,8 +216,8 @@ fn one_and_two(boxes: &[Box5]) -> Vec<Pair> {
 
 fn slab_pairs() -> Vec<Pair> {
     let mut pairs = vec![];
-    for f in 0..FIELDS {
-        for g in 0..FIELDS {
+    for f in 0..DIRECTION {
+        for g in 0..DIRECTION {
             pairs.extend(three_ways(&slabs(f, LIMIT), &slabs(g, LIMIT)));
         }
     }
@@ -215,12 +226,12 @@ fn slab_pairs() -> Vec<Pair> {
 
 /// Slabs of one list between those of the other. The protocol has too few numbers.
 fn interleaved_pairs() -> Vec<Pair> {
-    (0..FIELDS - 1).flat_map(|f| one_and_two(&slabs(f, 2 * LIMIT - 2))).collect()
+    (0..PROTOCOL).flat_map(|f| one_and_two(&slabs(f, 2 * LIMIT - 2))).collect()
 }
 
 fn ladder_pairs() -> Vec<Pair> {
     let mut pairs = vec![];
-    for f in 0..FIELDS {
+    for f in 0..DIRECTION {
         for g in (0..FIELDS).filter(|g| *g != f) {
             for grows in [true, false] {
                 pairs.extend(one_and_two(&ladder(f, g, LIMIT - 1, grows)));
@@ -234,7 +245,7 @@ fn halver_pairs() -> Vec<Pair> {
     let mut pairs = vec![];
     for (halving, levels) in [(72, 72), (MANY, MANY), (0, MANY), (16, MANY)] {
         let parts = halver(halving, levels);
-        let rows: Vec<Box5> = parts.iter().copied().step_by(2).collect();
+        let rows: Vec<Box6> = parts.iter().copied().step_by(2).collect();
         pairs.extend(three_ways(&parts, &parts));
         pairs.extend(three_ways(&parts, &[ALL]));
         pairs.extend(three_ways(&[ALL], &parts));
@@ -254,7 +265,7 @@ fn crowder_pairs() -> Vec<Pair> {
     pairs
 }
 
-fn shaped(shape: Shape, closing: Closing, n: usize) -> Vec<Box5> {
+fn shaped(shape: Shape, closing: Closing, n: usize) -> Vec<Box6> {
     family(shape, closing, n, &mut Random::new(600)).iter().map(|e| e.selector).collect()
 }
 
@@ -335,7 +346,7 @@ pub fn families() -> Vec<Family> {
 
 /// What `stack_test climb` starts from, with names.
 pub fn starts() -> Vec<(&'static str, Pair)> {
-    let apart = |boxes: &[Box5]| {
+    let apart = |boxes: &[Box6]| {
         let [first, second] = dealt(boxes);
         last_apart(&first, &second)
     };
@@ -354,9 +365,9 @@ pub fn starts() -> Vec<(&'static str, Pair)> {
 
 /// Boxes that have nothing in common, dealt to parties whose lists are closed by ALL: the working list
 /// has all of them.
-fn dealt_filings(boxes: &[Box5]) -> Vec<u8> {
-    let filing = |(party, boxes): (u8, &[Box5])| {
-        let boxes: Vec<Box5> = boxes.iter().copied().chain([ALL]).collect();
+fn dealt_filings(boxes: &[Box6]) -> Vec<u8> {
+    let filing = |(party, boxes): (u8, &[Box6])| {
+        let boxes: Vec<Box6> = boxes.iter().copied().chain([ALL]).collect();
         [vec![party], with_sets(&boxes, 1, 1)].concat()
     };
     (1..=8).zip(boxes.chunks(31)).flat_map(filing).collect()
@@ -377,7 +388,7 @@ fn mergings() -> Vec<(String, Vec<u8>)> {
 
 /// Bytes of stack of filing each of them and merging or installing, with names and answers.
 pub fn merging_stacks(call: &dyn Fn(&[u8], &mut [u8]) -> u32) -> Vec<(String, u32, usize)> {
-    let (mut stack, mut buffer) = (Painted::new(), vec![0; 7173]);
+    let (mut stack, mut buffer) = (Painted::new(), vec![0; LONGEST_FILE]);
     let mut measured = |(name, input): (String, Vec<u8>)| {
         let mut answer = 0;
         let used = stack.used(&mut || answer = call(&input, &mut buffer));

@@ -12,6 +12,7 @@ extern "C" {
         local_port: u16,
         remote_port: u16,
         protocol: u8,
+        direction: u8,
     ) -> u32;
 
     fn policy_compare(
@@ -34,8 +35,9 @@ fn parts(bytes: &[u8]) -> (*const u8, usize) {
 
 pub fn lookup(file: &[u8], h: &Header) -> u32 {
     let (file, length) = parts(file);
+    let (ports, last) = ((h[2] as u16, h[3] as u16), (h[4] as u8, h[5] as u8));
     // Sound: the pointer and the length are those of a slice, or null and 0.
-    unsafe { policy_lookup(file, length, h[0], h[1], h[2] as u16, h[3] as u16, h[4] as u8) }
+    unsafe { policy_lookup(file, length, h[0], h[1], ports.0, ports.1, last.0, last.1) }
 }
 
 pub fn compare(first: &[u8], second: &[u8], header: &mut [u8]) -> u32 {

@@ -1,7 +1,10 @@
 //! One generator of inputs, from fixed seeds, for the tests and the measurements alike.
 
-use crate::entry::{file, is_header, Box5, Entry, Header, List, ALL, FIELDS, TOP, WIDTH};
-use crate::entry::{LAST_HEADER, LOCAL_PORT, PROTOCOL, REMOTE_PORT, WITH_PORTS};
+use crate::entry::{
+    file, file_in, is_both_ways, is_header, Box6, Entry, Header, List, ALL, FIELDS,
+};
+use crate::entry::{DIRECTION, IN, LAST_HEADER, LOCAL_PORT, OUT, PROTOCOL, REMOTE_PORT, TOP};
+use crate::entry::{VERSIONS, WITH_PORTS};
 use crate::points;
 use crate::random::Random;
 
@@ -22,7 +25,7 @@ pub enum Shape {
     Scattered,
     /// Boxes from the low corner, longer in one field and shorter in the next.
     Staircase,
-    /// Boxes from the low corner to points of one plane across all five fields.
+    /// Boxes from the low corner to points of one plane across the first five fields.
     Plane,
     /// The same from the high corner, of protocols up to the last that has ports.
     HighPlane,
@@ -42,7 +45,7 @@ pub enum Closing {
     All,
     /// The lower and the upper half of the local addresses.
     Halves,
-    /// The 32 parts of all headers by the highest bit of each field.
+    /// The 32 parts of all headers by the highest bit of each of the first five fields.
     Orthants,
     /// Everything but the last header.
     Hole,
@@ -82,14 +85,14 @@ pub const CLOSINGS: [Closing; 7] = [
 ];
 
 /// ALL but for one field's range.
-pub fn only(f: usize, low: u32, high: u32) -> Box5 {
+pub fn only(f: usize, low: u32, high: u32) -> Box6 {
     let mut b = ALL;
     (b.low[f], b.high[f]) = (low, high);
     b
 }
 
 /// Both ports 0: every header of a protocol without ports.
-fn no_ports() -> Box5 {
+fn no_ports() -> Box6 {
     let mut b = only(LOCAL_PORT, 0, 0);
     b.high[REMOTE_PORT] = 0;
     b
@@ -100,7 +103,7 @@ fn share(f: usize, part: u64, whole: u64) -> u32 {
     (TOP[f] as u128 * part as u128 / whole as u128) as u32
 }
 
-fn grown(b: Box5) -> Box5 {
+fn grown(b: Box6) -> Box6 {
     let mut r = b;
     for f in 0..FIELDS {
         let by = (b.high[f] - b.low[f]) / 10;
@@ -111,7 +114,7 @@ fn grown(b: Box5) -> Box5 {
 }
 
 /// All headers in `n` parts, by cutting a random part in a random field again and again.
-pub fn partition(n: usize, random: &mut Random) -> Vec<Box5> {
+pub fn partition(n: usize, random: &mut Random) -> Vec<Box6> {
     let mut parts = vec![ALL];
     while parts.len() < n {
         let i = random.below(parts.len() as u64) as usize;
@@ -130,7 +133,7 @@ pub fn partition(n: usize, random: &mut Random) -> Vec<Box5> {
     parts
 }
 
-fn slab(i: usize, n: usize, d: usize, random: &mut Random) -> Box5 {
+fn slab(i: usize, n: usize, d: usize, random: &mut Random) -> Box6 {
     let f = i % d;
     let thick = TOP[f] / (2 * n.div_ceil(d) as u32) + 1;
     let low = random.between(0, TOP[f] - thick);
@@ -141,25 +144,26 @@ fn slab(i: usize, n: usize, d: usize, random: &mut Random) -> Box5 {
 }
 
 fn scattered_range(f: usize, random: &mut Random) -> (u32, u32) {
-    let bits = random.below(8 * WIDTH[f] as u64 + 1);
+    let bits = random.below(TOP[f].count_ones() as u64 + 1);
     let size = ((1u64 << bits) - 1) as u32;
     let low = random.between(0, TOP[f] - size);
     (low, low + size)
 }
 
-/// A point of the plane on which the five shares of the fields add up to two and a half wholes.
+/// A point of the plane on which the shares of the first five fields add up to two and a half wholes,
+/// with one of the directions.
 fn plane_point(random: &mut Random) -> Header {
     loop {
-        let mut parts = [0u64; FIELDS];
+        let mut parts = [0u64; DIRECTION];
         let mut sum = 0;
-        for part in parts.iter_mut().take(FIELDS - 1) {
+        for part in parts.iter_mut().take(DIRECTION - 1) {
             *part = random.below(1001);
             sum += *part;
         }
         if (1500..=2500).contains(&sum) {
-            parts[FIELDS - 1] = 2500 - sum;
-            let mut point = [0; FIELDS];
-            for f in 0..FIELDS {
+            parts[DIRECTION - 1] = 2500 - sum;
+            let mut point = [random.between(IN, OUT); FIELDS];
+            for f in 0..DIRECTION {
                 point[f] = share(f, parts[f], 1000);
             }
             return point;
@@ -178,7 +182,7 @@ fn starts_at_port_0(shape: Shape, i: usize, n: usize, random: &mut Random) -> bo
     }
 }
 
-fn body_box(shape: Shape, i: usize, n: usize, random: &mut Random) -> Box5 {
+fn body_box(shape: Shape, i: usize, n: usize, random: &mut Random) -> Box6 {
     let mut b = shape_box(shape, i, n, random);
     if starts_at_port_0(shape, i, n, random) {
         (b.low[LOCAL_PORT], b.low[REMOTE_PORT]) = (0, 0);
@@ -186,7 +190,7 @@ fn body_box(shape: Shape, i: usize, n: usize, random: &mut Random) -> Box5 {
     b
 }
 
-fn shape_box(shape: Shape, i: usize, n: usize, random: &mut Random) -> Box5 {
+fn shape_box(shape: Shape, i: usize, n: usize, random: &mut Random) -> Box6 {
     let mut b = ALL;
     let (here, whole) = (i as u64 + 1, n as u64 + 1);
     match shape {
@@ -224,8 +228,9 @@ fn shape_box(shape: Shape, i: usize, n: usize, random: &mut Random) -> Box5 {
                 b.low[f] = share(f, here - 1, whole);
                 b.high[f] = share(f, (here + 1).min(whole), whole);
             }
-            // Most thin ranges of protocols have none with ports.
+            // Most thin ranges of protocols have none with ports, and none but the last would be out.
             b.low[PROTOCOL] = 0;
+            b.high[DIRECTION] = OUT;
         }
         Shape::Realistic => return realistic_box(random),
         Shape::Partition | Shape::Exact => unreachable!("made whole"),
@@ -292,9 +297,13 @@ const PROTOCOLS: [(u32, u32); 13] = [
     (0, 255),
 ];
 
+/// Mostly both directions.
+const DIRECTIONS: [(u32, u32); 6] =
+    [(IN, OUT), (IN, OUT), (IN, OUT), (IN, OUT), (IN, IN), (OUT, OUT)];
+
 /// A selector as a gateway's administrator writes it. Some name ports for all protocols, few for one
 /// that has none.
-fn realistic_box(random: &mut Random) -> Box5 {
+fn realistic_box(random: &mut Random) -> Box6 {
     let (local, remote) = (addresses(&SITES, random), addresses(&PEERS, random));
     let protocols = *random.pick(&PROTOCOLS);
     let (mut local_port, mut remote_port) = ((0, 65535), (0, 65535));
@@ -306,11 +315,11 @@ fn realistic_box(random: &mut Random) -> Box5 {
         local_port = ports(random);
         remote_port = ports(random);
     }
-    let ranges = [local, remote, local_port, remote_port, protocols];
-    Box5 { low: ranges.map(|r| r.0), high: ranges.map(|r| r.1) }
+    let ranges = [local, remote, local_port, remote_port, protocols, *random.pick(&DIRECTIONS)];
+    Box6 { low: ranges.map(|r| r.0), high: ranges.map(|r| r.1) }
 }
 
-fn body(shape: Shape, n: usize, random: &mut Random) -> Vec<Box5> {
+fn body(shape: Shape, n: usize, random: &mut Random) -> Vec<Box6> {
     match shape {
         Shape::Partition => partition(n, random).into_iter().map(grown).collect(),
         Shape::Exact => partition(n, random),
@@ -318,7 +327,7 @@ fn body(shape: Shape, n: usize, random: &mut Random) -> Vec<Box5> {
     }
 }
 
-fn closing_boxes(closing: Closing, n: usize, random: &mut Random) -> Vec<Box5> {
+fn closing_boxes(closing: Closing, n: usize, random: &mut Random) -> Vec<Box6> {
     match closing {
         Closing::Bare => vec![],
         Closing::All => vec![ALL],
@@ -331,7 +340,7 @@ fn closing_boxes(closing: Closing, n: usize, random: &mut Random) -> Vec<Box5> {
         Closing::Orthants => (0..32u32)
             .map(|bits| {
                 let mut b = ALL;
-                for f in 0..FIELDS {
+                for f in 0..DIRECTION {
                     if bits >> f & 1 == 0 {
                         b.high[f] = TOP[f] / 2;
                     } else {
@@ -389,7 +398,7 @@ fn action_set(sets: Sets, random: &mut Random) -> u16 {
     }
 }
 
-fn with_sets(boxes: Vec<Box5>, sets: Sets, random: &mut Random) -> List {
+fn with_sets(boxes: Vec<Box6>, sets: Sets, random: &mut Random) -> List {
     boxes
         .into_iter()
         .map(|selector| Entry { selector, actions: action_set(sets, random) })
@@ -414,7 +423,7 @@ fn without_ports() -> Vec<(u32, u32)> {
 }
 
 /// Changes a box so that it holds no header: protocols without ports, and one port is not 0.
-fn leave_headers(b: &mut Box5, protocols: (u32, u32), random: &mut Random) {
+fn leave_headers(b: &mut Box6, protocols: (u32, u32), random: &mut Random) {
     (b.low[PROTOCOL], b.high[PROTOCOL]) = protocols;
     let f = *random.pick(&[LOCAL_PORT, REMOTE_PORT]);
     b.low[f] = b.low[f].max(1);
@@ -422,7 +431,7 @@ fn leave_headers(b: &mut Box5, protocols: (u32, u32), random: &mut Random) {
 }
 
 /// An entry that matches no header. What it allows must not matter.
-fn headerless_entry(mut selector: Box5, random: &mut Random) -> Entry {
+fn headerless_entry(mut selector: Box6, random: &mut Random) -> Entry {
     let protocols = *random.pick(&without_ports());
     leave_headers(&mut selector, protocols, random);
     Entry { selector, actions: action_set(Sets::Any, random) }
@@ -432,7 +441,8 @@ fn small_range(f: usize, random: &mut Random) -> (u32, u32) {
     if random.one_in(2) {
         return (0, TOP[f]);
     }
-    let (i, j) = (random.below(4) as usize, random.below(4) as usize);
+    let parts = points::STARTS[f].len() as u64;
+    let (i, j) = (random.below(parts) as usize, random.below(parts) as usize);
     (points::STARTS[f][i.min(j)], points::end(f, i.max(j)))
 }
 
@@ -448,12 +458,20 @@ fn small_entry(sets: Sets, random: &mut Random) -> Entry {
     Entry { selector, actions: action_set(sets, random) }
 }
 
+/// All headers of one direction.
+fn one_way(direction: u32) -> Box6 {
+    only(DIRECTION, direction, direction)
+}
+
 /// A list over a space so small that it can be walked point by point (see points.rs): mostly closed by
-/// ALL, or by two entries that match all headers and not all combinations; sometimes with a gap.
+/// ALL, or by two entries that match all headers and not all combinations, or by one for each direction;
+/// sometimes with a gap.
 pub fn small_list(n: usize, sets: Sets, random: &mut Random) -> List {
-    let closing = match random.below(12) {
+    let closing = match random.below(14) {
         0 => vec![],
-        1..=3 if n > 1 => vec![no_ports(), only(PROTOCOL, WITH_PORTS[0], TOP[PROTOCOL])],
+        1 => vec![one_way(random.between(IN, OUT))],
+        2..=4 if n > 1 => vec![no_ports(), only(PROTOCOL, WITH_PORTS[0], TOP[PROTOCOL])],
+        5 if n > 1 => vec![one_way(OUT), one_way(IN)],
         _ => vec![ALL],
     };
     let mut list: List = (closing.len()..n).map(|_| small_entry(sets, random)).collect();
@@ -549,7 +567,7 @@ pub fn related_list(list: &[Entry], random: &mut Random) -> List {
     for _ in 0..random.below(4) {
         let i = random.below(other.len() as u64) as usize;
         let j = random.below(other.len() as u64) as usize;
-        match random.below(10) {
+        match random.below(12) {
             0 | 1 => other[i].actions |= 1 << random.below(16),
             2 => other[i].actions &= !(1 << random.below(16)),
             3 => other.swap(i, j),
@@ -569,6 +587,14 @@ pub fn related_list(list: &[Entry], random: &mut Random) -> List {
                 let entry = headerless_entry(other[j].selector, random);
                 other.insert(i, entry);
             }
+            9 | 10 if other.len() < 256 => {
+                // An entry that has another set for one direction.
+                let (mut entry, direction) = (other[i], random.between(IN, OUT));
+                let s = &mut entry.selector;
+                (s.low[DIRECTION], s.high[DIRECTION]) = (direction, direction);
+                entry.actions ^= 1 << random.below(16);
+                other.insert(i, entry);
+            }
             _ => {
                 let f = random.below(FIELDS as u64) as usize;
                 other[i].selector.high[f] = other[i].selector.low[f].max(other[j].selector.low[f]);
@@ -584,26 +610,70 @@ pub fn related_list(list: &[Entry], random: &mut Random) -> List {
 
 // ---------------------------------------------------------------- files and headers
 
+/// Ranges of directions that count as crossed: a low above its high, or an end above 1.
+const NO_DIRECTIONS: [(u32, u32); 12] = [
+    (1, 0),
+    (1, 0),
+    (0, 2),
+    (0, 2),
+    (1, 2),
+    (2, 2),
+    (2, 0),
+    (2, 1),
+    (0, 255),
+    (255, 255),
+    (255, 0),
+    (128, 129),
+];
+
+/// Gives a box such a range of directions.
+pub fn leave_directions(b: &mut Box6, random: &mut Random) {
+    (b.low[DIRECTION], b.high[DIRECTION]) = *random.pick(&NO_DIRECTIONS);
+}
+
 /// Gives an entry a crossed range.
 pub fn cross_one(list: &mut [Entry], random: &mut Random) {
     let i = random.below(list.len() as u64) as usize;
     let f = random.below(FIELDS as u64) as usize;
     let s = &mut list[i].selector;
+    if f == DIRECTION {
+        return leave_directions(s, random);
+    }
     s.low[f] = random.between(1, TOP[f]);
     s.high[f] = s.low[f] - random.between(1, s.low[f].min(3));
+}
+
+/// The file of a list in one of the versions. Version 1 is seldom taken where it leaves out directions.
+pub fn file_in_some_version(list: &[Entry], random: &mut Random) -> Vec<u8> {
+    let is_lost = !list.iter().all(is_both_ways);
+    let version = if is_lost && !random.one_in(4) { 2 } else { *random.pick(&VERSIONS) };
+    file_in(version, list)
+}
+
+/// A file of 420 bytes of records, which are 15 of version 1 and 14 of version 2, with a version and a
+/// count that seldom are those of its records.
+fn file_of_either_size(list: &[Entry], random: &mut Random) -> Vec<u8> {
+    let (version, count) = *random.pick(&[(1, 15), (2, 14)]);
+    let mut list = list.to_vec();
+    list.resize(count, list[0]);
+    let mut bytes = file_in(version, &list);
+    bytes[2] = *random.pick(&VERSIONS);
+    bytes[4] = *random.pick(&[14, 15]);
+    bytes
 }
 
 /// A file with a fault, so that each of the refusals of reading is met, now and then without one.
 pub fn damaged(list: &[Entry], random: &mut Random) -> Vec<u8> {
     let mut list = list.to_vec();
     let n = list.len();
-    match random.below(14) {
+    let version = *random.pick(&VERSIONS);
+    match random.below(16) {
         0 | 1 => {
             // A crossed range, or two.
             for _ in 0..random.between(1, 2) {
                 cross_one(&mut list, random);
             }
-            file(&list)
+            file_in(version, &list)
         }
         2 => {
             // A gap at the end of one field.
@@ -612,11 +682,11 @@ pub fn damaged(list: &[Entry], random: &mut Random) -> Vec<u8> {
                 e.selector.high[f] = e.selector.high[f].min(TOP[f] - 1);
                 e.selector.low[f] = e.selector.low[f].min(e.selector.high[f]);
             }
-            file(&list)
+            file_in(version, &list)
         }
         3 => {
             list.pop();
-            file(&list)
+            file_in(version, &list)
         }
         4 => {
             // More entries than any file has.
@@ -624,62 +694,69 @@ pub fn damaged(list: &[Entry], random: &mut Random) -> Vec<u8> {
                 list.extend_from_within(..);
             }
             list.truncate(random.between(250, 260) as usize);
-            file(&list)
+            file_in(version, &list)
         }
         5 => {
-            let mut bytes = file(&list);
-            bytes[2] = *random.pick(&[0, 2, 3, 255]);
+            let mut bytes = file_in(version, &list);
+            bytes[2] = *random.pick(&[0, 3, 4, 255]);
             bytes
         }
         6 => {
-            let mut bytes = file(&list);
+            let mut bytes = file_in(version, &list);
             let count = *random.pick(&[0, 1, n as u32 + 1, n as u32 - 1, 33, 256, 257, 65535]);
             bytes[3..5].copy_from_slice(&(count as u16).to_be_bytes());
             bytes
         }
         7 => {
-            let mut bytes = file(&list);
+            let mut bytes = file_in(version, &list);
             bytes.truncate(random.below(bytes.len() as u64) as usize);
             bytes
         }
         8 => {
-            let mut bytes = file(&list);
+            let mut bytes = file_in(version, &list);
             bytes.truncate(random.below(7) as usize);
             bytes
         }
         9 => {
-            let mut bytes = file(&list);
+            let mut bytes = file_in(version, &list);
             let more = random.between(1, 30);
             bytes.extend((0..more).map(|_| random.next() as u8));
             bytes
         }
         10 => {
             // The length agrees, the count does not.
-            let mut bytes = file(&list);
-            let more = random.between(1, 28) as usize;
+            let mut bytes = file_in(version, &list);
+            let more = random.between(1, 30) as usize;
             bytes.extend((0..more).map(|_| random.next() as u8));
             let length = bytes.len() - 2;
             bytes[0..2].copy_from_slice(&(length as u16).to_be_bytes());
             bytes
         }
         11 => {
-            let mut bytes = file(&list);
+            let mut bytes = file_in(version, &list);
             let i = random.below(bytes.len().min(5) as u64) as usize;
             bytes[i] ^= 1 << random.below(8);
             bytes
         }
         12 => {
-            let mut bytes = file(&list);
+            let mut bytes = file_in(version, &list);
             let i = random.below(bytes.len() as u64) as usize;
             bytes[i] = random.next() as u8;
             bytes
         }
+        13 => {
+            // The length of the other version's records.
+            let mut bytes = file_in(version, &list);
+            bytes[2] = 3 - version;
+            bytes
+        }
+        14 => file_of_either_size(&list, random),
         _ => {
             let length = random.below(80) as usize;
             let mut bytes: Vec<u8> = (0..length).map(|_| random.next() as u8).collect();
             if length >= 5 && random.one_in(2) {
                 bytes[0..2].copy_from_slice(&(length as u16 - 2).to_be_bytes());
-                bytes[2] = random.between(0, 1) as u8;
+                bytes[2] = random.between(0, 3) as u8;
                 bytes[3..5].copy_from_slice(&[0, random.between(0, 2) as u8]);
             }
             bytes
@@ -691,9 +768,12 @@ pub fn damaged(list: &[Entry], random: &mut Random) -> Vec<u8> {
 pub fn some_file(list: &[Entry], random: &mut Random) -> Vec<u8> {
     match random.below(8) {
         0 => damaged(list, random),
-        _ => file(list),
+        _ => file_in_some_version(list, random),
     }
 }
+
+/// Directions that are none.
+const NO_DIRECTION: [u32; 4] = [2, 3, 128, 255];
 
 /// A header at or beside the ends of a list's ranges; now and then a combination that is none.
 pub fn header_near(list: &[Entry], random: &mut Random) -> Header {
@@ -704,6 +784,9 @@ pub fn header_near(list: &[Entry], random: &mut Random) -> Header {
         } else {
             header[PROTOCOL] = *random.pick(&WITH_PORTS);
         }
+    }
+    if random.one_in(20) {
+        header[DIRECTION] = *random.pick(&NO_DIRECTION);
     }
     header
 }
@@ -729,11 +812,11 @@ fn numbers_near(list: &[Entry], random: &mut Random) -> Header {
     header
 }
 
-/// A box with its ends at or beside those of a list's ranges, sometimes crossed, sometimes without a
-/// header.
-pub fn box_near(list: &[Entry], random: &mut Random) -> Box5 {
+/// A box with its ends at or beside those of a list's ranges, sometimes crossed, in its directions too,
+/// sometimes without a header.
+pub fn box_near(list: &[Entry], random: &mut Random) -> Box6 {
     let (x, y) = (numbers_near(list, random), numbers_near(list, random));
-    let mut b = Box5 { low: x, high: y };
+    let mut b = Box6 { low: x, high: y };
     if !random.one_in(20) {
         for f in 0..FIELDS {
             b.low[f] = x[f].min(y[f]);
@@ -747,6 +830,9 @@ pub fn box_near(list: &[Entry], random: &mut Random) -> Box5 {
         }
         1..=3 => (b.low[LOCAL_PORT], b.low[REMOTE_PORT]) = (0, 0),
         _ => {}
+    }
+    if random.one_in(16) {
+        leave_directions(&mut b, random);
     }
     b
 }
@@ -794,10 +880,11 @@ pub fn some_ranking(random: &mut Random) -> Vec<u8> {
 // ---------------------------------------------------------------- filings, inputs of the program
 
 /// Single ports then ALL, as in 01's example of 256 and 272 entries; or single numbers of another field.
-/// Of protocols, those with ports come first.
+/// Of protocols, those with ports come first; of directions, there are two.
 pub fn single_ports(f: usize, n: usize) -> List {
-    let number = |i: usize| match WITH_PORTS.get(i) {
-        Some(protocol) if f == PROTOCOL => *protocol,
+    let number = |i: usize| match f {
+        PROTOCOL if i < WITH_PORTS.len() => WITH_PORTS[i],
+        DIRECTION => i as u32,
         _ => 100 + i as u32,
     };
     let single = |i| Entry { selector: only(f, number(i), number(i)), actions: 0x8000 };
@@ -819,18 +906,18 @@ pub fn lists_at_limit(more: u32) -> [List; 2] {
     [single_ports(2, 15), second]
 }
 
-/// Their filings by two parties.
+/// Their filings by two parties, one in each version.
 pub fn filings_at_limit(more: u32) -> Vec<u8> {
     let mut input = vec![];
-    for (party, list) in (1..).zip(lists_at_limit(more)) {
-        filing(party, &file(&list), &mut input);
+    for (version, list) in VERSIONS.into_iter().zip(lists_at_limit(more)) {
+        filing(version, &file_in(version, &list), &mut input);
     }
     input
 }
 
 /// Fields and numbers of single values in them: the working lists have 256 entries, or a few more.
 /// The last two have 256 only because protocols without ports have no pairs with single ports.
-pub const CROWDS: [&[(usize, usize)]; 10] = [
+pub const CROWDS: [&[(usize, usize)]; 13] = [
     &[(2, 15), (3, 15)],
     &[(2, 16), (3, 15)],
     &[(4, 31), (1, 7)],
@@ -838,6 +925,9 @@ pub const CROWDS: [&[(usize, usize)]; 10] = [
     &[(0, 8), (1, 7), (4, 3)],
     &[(0, 3), (1, 3), (2, 3), (3, 3)],
     &[(0, 3), (1, 3), (2, 3), (3, 3), (4, 1)],
+    &[(2, 15), (3, 7), (5, 1)],
+    &[(2, 16), (3, 7), (5, 1)],
+    &[(5, 1), (0, 7), (1, 15)],
     &[(0, 3), (1, 1), (2, 3), (4, 17)],
     &[(0, 3), (1, 1), (2, 1), (3, 1), (4, 16)],
     &[(1, 1), (3, 21), (4, 22)],
@@ -908,7 +998,8 @@ pub fn realistic_filings(parties: u8, least: u32, most: u32, random: &mut Random
     let mut input = vec![];
     for party in 1..=parties {
         let n = random.between(least, most) as usize;
-        filing(party, &file(&realistic_list(n, Sets::With(4), random)), &mut input);
+        let list = realistic_list(n, Sets::With(4), random);
+        filing(party, &file_in_some_version(&list, random), &mut input);
     }
     input
 }
@@ -969,8 +1060,10 @@ pub fn program_input(random: &mut Random) -> Vec<u8> {
             return filings_at_limit(random.between(0, 3));
         }
         let (first, second) = (random.between(14, 17), random.between(14, 17));
-        filing(1, &file(&single_ports(2, first as usize)), &mut input);
-        filing(2, &file(&single_ports(3, second as usize)), &mut input);
+        for (party, f, n) in [(1, LOCAL_PORT, first), (2, REMOTE_PORT, second)] {
+            let bytes = file_in_some_version(&single_ports(f, n as usize), random);
+            filing(party, &bytes, &mut input);
+        }
         return input;
     }
     let filings = Filings::of_kind(kind, random);
@@ -985,7 +1078,7 @@ pub fn program_input(random: &mut Random) -> Vec<u8> {
         if random.one_in(9) {
             filing(party, &damaged(&list, random), &mut input);
         } else {
-            filing(party, &file(&list), &mut input);
+            filing(party, &file_in_some_version(&list, random), &mut input);
         }
     }
     if random.one_in(12) {
@@ -1004,7 +1097,8 @@ pub fn long_input(length: usize, random: &mut Random) -> Vec<u8> {
     while input.len() < length {
         let n = *random.pick(&[1, 5, 20, 32]);
         let list = realistic_list(n, Sets::With(4), random);
-        filing(some_party(3, random), &file(&list), &mut input);
+        let bytes = file_in_some_version(&list, random);
+        filing(some_party(3, random), &bytes, &mut input);
     }
     input.truncate(length);
     input
@@ -1021,11 +1115,9 @@ pub fn input_to_the_last_byte(length: usize, random: &mut Random) -> Vec<u8> {
     let record = |random: &mut Random| {
         let n = *random.pick(&[1, 2, 5, 20, 32]);
         let mut record = vec![];
-        filing(
-            random.between(1, 3) as u8,
-            &file(&realistic_list(n, Sets::With(4), random)),
-            &mut record,
-        );
+        let list = realistic_list(n, Sets::With(4), random);
+        let bytes = file_in_some_version(&list, random);
+        filing(random.between(1, 3) as u8, &bytes, &mut record);
         record
     };
     let mut last = record(random);

@@ -3,7 +3,7 @@
 //! last to first. Installing goes on with one action of each set, and strikes again. The search works on
 //! packed records, or on decoded ones.
 
-use crate::entry::{record, Box5, Entry, Header, List, ALL, BOX, RECORD};
+use crate::entry::{record, Box6, Entry, Header, List, ALL, BOX, RECORD};
 use crate::search::{common_part, is_proper, Decoded, Lists, Packed};
 
 #[derive(Clone, PartialEq, Eq, Debug)]
@@ -34,7 +34,7 @@ impl Working {
         &self,
         a: std::ops::Range<usize>,
         b: std::ops::Range<usize>,
-        x: &Box5,
+        x: &Box6,
         boxes: &mut u64,
     ) -> Option<Header> {
         match self.form {

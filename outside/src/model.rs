@@ -1,9 +1,11 @@
-//! Document 01 once more, with Wishes 1 and 2 of 02, written from their text for clarity, as the other
+//! Document 01 once more, with Wishes 1, 2 and 4 of 02, written from their text for clarity, as the other
 //! side of the tests. It shares no algorithm with the product: what the product finds by cutting boxes is
 //! found here by walking the cells between all ends of ranges, field by field, in the order of headers.
 
-use crate::entry::{is_header, Box5, Entry, Header, List, ALL, BOX, FIELDS, RECORD, TOP, WIDTH};
-use crate::entry::{LOCAL_PORT, PROTOCOL, REMOTE_PORT, WITH_PORTS};
+use crate::entry::{
+    is_both_ways, is_header, Box6, Entry, Header, List, ALL, FIELDS, OUT, TOP, WIDTH,
+};
+use crate::entry::{DIRECTION, LOCAL_PORT, PROTOCOL, REMOTE_PORT, WITH_PORTS};
 use std::collections::{BTreeSet, HashSet};
 
 // ---------------------------------------------------------------- what is turned down
@@ -46,17 +48,26 @@ impl Refusal {
 
 pub const FILED_LIMIT: usize = 32;
 pub const LIST_LIMIT: usize = 256;
-pub const LONGEST_FILE: usize = 5 + 28 * LIST_LIMIT;
+
+/// Bytes before a file's records, and of a record in versions 1 and 2.
+const HEAD: usize = 5;
+const RECORD_1: usize = 28;
+const RECORD_2: usize = 30;
+
+/// The longest file: merged and installed ones are of version 2.
+pub const LONGEST_FILE: usize = HEAD + RECORD_2 * LIST_LIMIT;
 
 // ---------------------------------------------------------------- headers, entries, lists
 
 /// Whether numbers are in a box; a crossed box holds none.
-pub fn holds(b: &Box5, h: &Header) -> bool {
-    (0..FIELDS).all(|f| b.low[f] <= h[f] && h[f] <= b.high[f])
+pub fn holds(b: &Box6, h: &Header) -> bool {
+    (0..FIELDS).all(|f| b.low[f] <= h[f] && h[f] <= b.high[f]) && !is_crossed(b)
 }
 
-pub fn is_crossed(b: &Box5) -> bool {
-    (0..FIELDS).any(|f| b.low[f] > b.high[f])
+/// Whether a low is above its high, or an end of the directions is none.
+pub fn is_crossed(b: &Box6) -> bool {
+    let ends = [b.low[DIRECTION], b.high[DIRECTION]];
+    (0..FIELDS).any(|f| b.low[f] > b.high[f]) || ends.iter().any(|end| *end > OUT)
 }
 
 /// The number of the first entry that matches (Definition 3). What is no header is uncaught.
@@ -79,7 +90,7 @@ pub fn allowed(list: &[Entry], h: &Header) -> Option<u16> {
 /// header are left out. So every combination of catching entries that occurs at a header of the box
 /// is visited, first at its least header.
 pub fn walk(
-    within: &Box5,
+    within: &Box6,
     lists: &[&[Entry]],
     visit: &mut dyn FnMut(&Header, &[Option<usize>]) -> bool,
 ) {
@@ -99,7 +110,7 @@ type Alive = Vec<Vec<usize>>;
 type Walked = (Alive, bool);
 
 fn walk_field(
-    within: &Box5,
+    within: &Box6,
     lists: &[&[Entry]],
     f: usize,
     alive: Alive,
@@ -107,9 +118,13 @@ fn walk_field(
     seen: &mut Vec<HashSet<Walked>>,
     visit: &mut dyn FnMut(&Header, &[Option<usize>]) -> bool,
 ) -> bool {
+    // Once the protocol is chosen, ports that it lacks make no header with either direction.
+    if f > PROTOCOL && !is_header(header) {
+        return false;
+    }
     if f == FIELDS {
         let catching: Vec<Option<usize>> = alive.iter().map(|list| list.first().copied()).collect();
-        return is_header(header) && visit(header, &catching);
+        return visit(header, &catching);
     }
     let alive = without_hidden(within, lists, f, alive);
     let has_port = [LOCAL_PORT, REMOTE_PORT].iter().any(|g| *g < f && header[*g] > 0);
@@ -138,7 +153,7 @@ fn walk_field(
 
 /// Drops the entries after one that matches everything that is still to be walked: they catch
 /// nothing of it.
-fn without_hidden(within: &Box5, lists: &[&[Entry]], f: usize, mut alive: Alive) -> Alive {
+fn without_hidden(within: &Box6, lists: &[&[Entry]], f: usize, mut alive: Alive) -> Alive {
     for (list, numbers) in lists.iter().zip(&mut alive) {
         let whole = |i: &usize| {
             let s = &list[*i].selector;
@@ -162,7 +177,7 @@ pub fn header_cuts(f: usize) -> Vec<u32> {
 }
 
 /// The least numbers of the cells of field `f`: the ends of all ranges cut the box's range there.
-fn cell_starts(within: &Box5, lists: &[&[Entry]], f: usize, alive: &Alive) -> BTreeSet<u32> {
+fn cell_starts(within: &Box6, lists: &[&[Entry]], f: usize, alive: &Alive) -> BTreeSet<u32> {
     let mut starts = BTreeSet::from([within.low[f]]);
     starts.extend(header_cuts(f));
     for (list, numbers) in lists.iter().zip(alive) {
@@ -180,7 +195,7 @@ fn cell_starts(within: &Box5, lists: &[&[Entry]], f: usize, alive: &Alive) -> BT
 
 /// The least header of a box whose catching entries have a property.
 fn least(
-    within: &Box5,
+    within: &Box6,
     lists: &[&[Entry]],
     property: impl Fn(&[Option<usize>]) -> bool,
 ) -> Option<Header> {
@@ -195,7 +210,7 @@ fn least(
 }
 
 /// The least header of a box.
-pub fn least_header(within: &Box5) -> Option<Header> {
+pub fn least_header(within: &Box6) -> Option<Header> {
     least(within, &[], |_| true)
 }
 
@@ -221,35 +236,66 @@ pub fn header_at(bytes: &[u8]) -> Header {
     std::array::from_fn(|f| found[f])
 }
 
-pub fn box_at(bytes: &[u8]) -> Box5 {
-    let found = numbers(bytes, WIDTH.into_iter().flat_map(|width| [width, width]));
-    Box5 {
-        low: std::array::from_fn(|f| found[2 * f]),
-        high: std::array::from_fn(|f| found[2 * f + 1]),
+/// The ranges of the first so many fields; the others are whole.
+fn ranges_at(bytes: &[u8], fields: usize) -> Box6 {
+    let found = numbers(bytes, WIDTH[..fields].iter().flat_map(|width| [*width, *width]));
+    let mut b = ALL;
+    for f in 0..fields {
+        (b.low[f], b.high[f]) = (found[2 * f], found[2 * f + 1]);
+    }
+    b
+}
+
+pub fn box_at(bytes: &[u8]) -> Box6 {
+    ranges_at(bytes, FIELDS)
+}
+
+/// A list, and the version of the file that it was read from or is written to.
+#[derive(Clone, PartialEq, Eq, Debug)]
+pub struct Versioned {
+    pub version: u8,
+    pub entries: List,
+}
+
+/// Check 2, and how many bytes a record has in this version.
+fn record_size(version: u8) -> Result<usize, Refusal> {
+    match version {
+        1 => Ok(RECORD_1),
+        2 => Ok(RECORD_2),
+        _ => Err(Refusal::Version),
     }
 }
 
-pub fn entry_at(bytes: &[u8]) -> Entry {
-    Entry { selector: box_at(bytes), actions: number(&bytes[BOX..RECORD]) as u16 }
+/// How many fields a record has in a version: the direction comes with version 2.
+fn fields_in(version: u8) -> usize {
+    match version {
+        1 => DIRECTION,
+        _ => FIELDS,
+    }
+}
+
+/// The entry of a record: of version 1, it covers both directions.
+pub fn entry_at(version: u8, record: &[u8]) -> Entry {
+    let (ranges, actions) = record.split_at(record.len() - 2);
+    Entry { selector: ranges_at(ranges, fields_in(version)), actions: number(actions) as u16 }
 }
 
 /// Reading a file: checks 1 to 4, and the list.
-pub fn read(file: &[u8], limit: usize) -> Result<List, Refusal> {
-    if file.len() < 5 || file.len() != number(&file[0..2]) as usize + 2 {
+pub fn read(file: &[u8], limit: usize) -> Result<Versioned, Refusal> {
+    if file.len() < HEAD || file.len() != number(&file[0..2]) as usize + 2 {
         return Err(Refusal::Missized);
     }
-    if file[2] != 1 {
-        return Err(Refusal::Version);
-    }
+    let version = file[2];
+    let size = record_size(version)?;
     let n = number(&file[3..5]) as usize;
-    let rest = file.len() - 5;
-    if n < 1 || n > limit || rest / 28 != n || rest % 28 != 0 {
+    let rest = file.len() - HEAD;
+    if n < 1 || n > limit || rest / size != n || rest % size != 0 {
         return Err(Refusal::Count);
     }
-    let list: List = file[5..].chunks(28).map(entry_at).collect();
-    match list.iter().position(|e| is_crossed(&e.selector)) {
+    let entries: List = file[HEAD..].chunks(size).map(|record| entry_at(version, record)).collect();
+    match entries.iter().position(|e| is_crossed(&e.selector)) {
         Some(i) => Err(Refusal::Crossed(i)),
-        None => Ok(list),
+        None => Ok(Versioned { version, entries }),
     }
 }
 
@@ -265,9 +311,9 @@ fn bytes_of(value: u32, width: usize) -> Vec<u8> {
     (0..width).rev().map(|i| (value >> (8 * i)) as u8).collect()
 }
 
-fn record_of(e: &Entry) -> Vec<u8> {
+fn record_of(version: u8, e: &Entry) -> Vec<u8> {
     let mut bytes = vec![];
-    for f in 0..FIELDS {
+    for f in 0..fields_in(version) {
         bytes.extend(bytes_of(e.selector.low[f], WIDTH[f]));
         bytes.extend(bytes_of(e.selector.high[f], WIDTH[f]));
     }
@@ -279,17 +325,17 @@ pub fn header_of(h: &Header) -> Vec<u8> {
     (0..FIELDS).flat_map(|f| bytes_of(h[f], WIDTH[f])).collect()
 }
 
-fn file_of(list: &[Entry]) -> Vec<u8> {
-    let mut bytes = bytes_of(3 + 28 * list.len() as u32, 2);
-    bytes.push(1);
+/// The file of a list: what stands after the first two bytes, and before that how much it is.
+fn file_of(version: u8, list: &[Entry]) -> Vec<u8> {
+    let mut bytes = vec![version];
     bytes.extend(bytes_of(list.len() as u32, 2));
-    bytes.extend(list.iter().flat_map(record_of));
-    bytes
+    bytes.extend(list.iter().flat_map(|e| record_of(version, e)));
+    [bytes_of(bytes.len() as u32, 2), bytes].concat()
 }
 
 /// Puts a list's file at the start of a lent buffer, if it has room: the file's length.
-fn put_file(list: &[Entry], buffer: &mut [u8]) -> Result<usize, Refusal> {
-    let file = file_of(list);
+fn put_file(version: u8, list: &[Entry], buffer: &mut [u8]) -> Result<usize, Refusal> {
+    let file = file_of(version, list);
     if buffer.len() < file.len() {
         return Err(Refusal::Narrow(file.len()));
     }
@@ -297,28 +343,34 @@ fn put_file(list: &[Entry], buffer: &mut [u8]) -> Result<usize, Refusal> {
     Ok(file.len())
 }
 
-/// Writing a list into a lent buffer: the file's length.
-pub fn write(list: &[Entry], buffer: &mut [u8]) -> Result<usize, Refusal> {
-    if list.is_empty() || list.len() > LIST_LIMIT {
-        return Err(Refusal::Count);
-    }
-    if let Some(i) = list.iter().position(|e| is_crossed(&e.selector)) {
-        return Err(Refusal::Crossed(i));
-    }
-    put_file(list, buffer)
+/// Whether an entry counts as crossed in a file of some version: version 1 can't say its directions
+/// unless they are both.
+fn is_crossed_in(version: u8, e: &Entry) -> bool {
+    is_crossed(&e.selector) || (version == 1 && !is_both_ways(e))
 }
 
-/// The same for a list of `count` entries, of which no more than the first 256 are at hand.
-pub fn write_counted(count: usize, first: &[Entry], buffer: &mut [u8]) -> Result<usize, Refusal> {
-    if count > LIST_LIMIT {
+/// Writing a list into a lent buffer: the file's length. Of a list of `count` entries, no more than the
+/// first 256 are at hand.
+pub fn write(
+    version: u8,
+    count: usize,
+    first: &[Entry],
+    buffer: &mut [u8],
+) -> Result<usize, Refusal> {
+    record_size(version)?;
+    if !(1..=LIST_LIMIT).contains(&count) {
         return Err(Refusal::Count);
     }
-    write(first, buffer)
+    if let Some(i) = first.iter().position(|e| is_crossed_in(version, e)) {
+        return Err(Refusal::Crossed(i));
+    }
+    put_file(version, first, buffer)
 }
 
 /// Reading a file and writing the list that was read.
 pub fn rewrite(file: &[u8], buffer: &mut [u8]) -> Result<usize, Refusal> {
-    write(&read(file, LIST_LIMIT)?, buffer)
+    let Versioned { version, entries } = read(file, LIST_LIMIT)?;
+    write(version, entries.len(), &entries, buffer)
 }
 
 // ---------------------------------------------------------------- search, lookup, comparison
@@ -331,8 +383,8 @@ pub enum Want {
 }
 
 /// The least header of a box that the file's list treats in a wanted way.
-pub fn search(file: &[u8], within: &Box5, want: Want) -> Result<Option<Header>, Refusal> {
-    let list = read(file, LIST_LIMIT)?;
+pub fn search(file: &[u8], within: &Box6, want: Want) -> Result<Option<Header>, Refusal> {
+    let list = read(file, LIST_LIMIT)?.entries;
     Ok(least(within, &[&list], |c| match want {
         Want::Uncaught => c[0].is_none(),
         Want::CaughtBy(i) => c[0] == Some(i),
@@ -342,13 +394,16 @@ pub fn search(file: &[u8], within: &Box5, want: Want) -> Result<Option<Header>, 
 
 /// The number of the entry that catches the header. The file's checks come first.
 pub fn lookup(file: &[u8], h: &Header) -> Result<Option<usize>, Refusal> {
-    Ok(catching(&read(file, LIST_LIMIT)?, h))
+    Ok(catching(&read(file, LIST_LIMIT)?.entries, h))
 }
 
 /// The catching record as a part of the file: where it starts, and its length.
 pub fn lookup_part(file: &[u8], h: &Header) -> (usize, usize) {
     match lookup(file, h) {
-        Ok(Some(i)) => (5 + 28 * i, 28),
+        Ok(Some(i)) => {
+            let size = record_size(file[2]).expect("a good file");
+            (HEAD + size * i, size)
+        }
         _ => (0, 0),
     }
 }
@@ -371,7 +426,7 @@ pub fn lookup_number(file: &[u8], h: &Header) -> u32 {
 /// comes with the file's number.
 pub fn compare(first: &[u8], second: &[u8]) -> Result<Option<Header>, (u32, Refusal)> {
     let covering = |file: &[u8]| {
-        let list = read(file, LIST_LIMIT)?;
+        let list = read(file, LIST_LIMIT)?.entries;
         gap(&list)?;
         Ok(list)
     };
@@ -388,8 +443,9 @@ pub fn compare_number(first: &[u8], second: &[u8], buffer: &mut [u8]) -> u32 {
     match compare(first, second) {
         Ok(None) => 0,
         Ok(Some(header)) => {
-            if buffer.len() >= 13 {
-                buffer[..13].copy_from_slice(&header_of(&header));
+            let bytes = header_of(&header);
+            if let Some(start) = buffer.get_mut(..bytes.len()) {
+                start.copy_from_slice(&bytes);
             }
             1
         }
@@ -399,7 +455,7 @@ pub fn compare_number(first: &[u8], second: &[u8], buffer: &mut [u8]) -> u32 {
 
 // ---------------------------------------------------------------- merging
 
-fn common_part(a: &Box5, b: &Box5) -> Box5 {
+fn common_part(a: &Box6, b: &Box6) -> Box6 {
     let mut r = *a;
     for f in 0..FIELDS {
         r.low[f] = a.low[f].max(b.low[f]);
@@ -523,7 +579,7 @@ pub fn installed_list(lists: &[&[Entry]], ranking: &[u8]) -> Result<List, Refusa
 /// A slot for each party.
 #[derive(Clone, Default, PartialEq, Eq, Debug)]
 pub struct Bench {
-    slots: [Option<List>; 8],
+    slots: [Option<Versioned>; 8],
 }
 
 impl Bench {
@@ -532,8 +588,8 @@ impl Bench {
             return Err(Refusal::Party);
         }
         let list = read(file, FILED_LIMIT)?;
-        gap(&list)?;
-        let n = list.len();
+        gap(&list.entries)?;
+        let n = list.entries.len();
         self.slots[party as usize - 1] = Some(list);
         Ok(n)
     }
@@ -550,19 +606,24 @@ impl Bench {
 
     /// The lists in force, in the parties' order.
     fn in_force(&self) -> Vec<&[Entry]> {
-        self.slots.iter().flatten().map(|list| &list[..]).collect()
+        self.slots.iter().flatten().map(|list| &list.entries[..]).collect()
+    }
+
+    /// Their versions.
+    pub fn versions(&self) -> Vec<u8> {
+        self.slots.iter().flatten().map(|list| list.version).collect()
     }
 
     /// The merged list's entry count and its file's length.
     pub fn merge(&self, buffer: &mut [u8]) -> Result<(usize, usize), Refusal> {
         let list = merged_list(&self.in_force())?;
-        Ok((list.len(), put_file(&list, buffer)?))
+        Ok((list.len(), put_file(2, &list, buffer)?))
     }
 
     /// The installed list's entry count and its file's length.
     pub fn install(&self, ranking: &[u8], buffer: &mut [u8]) -> Result<(usize, usize), Refusal> {
         let list = installed_list(&self.in_force(), ranking)?;
-        Ok((list.len(), put_file(&list, buffer)?))
+        Ok((list.len(), put_file(2, &list, buffer)?))
     }
 }
 
@@ -616,7 +677,7 @@ pub fn program(input: &[u8]) -> String {
     match bench.merge(&mut buffer) {
         Ok((n, length)) => {
             output += &format!("merged {n}\n");
-            for record in buffer[5..length].chunks(28) {
+            for record in buffer[HEAD..length].chunks(RECORD_2) {
                 output += &hexadecimal(record);
                 output += "\n";
             }

@@ -1,19 +1,20 @@
 //! Rules 1 to 4 of Merging, and installing, taken word by word, by walking a small header space point
 //! by point.
-//! A small list's ranges are made of four parts of each field. So one number of each part tells all
-//! headers apart that such lists can tell apart; of protocols, one with ports and one without.
+//! A small list's ranges are made of four parts of each field, and of the two directions. So one number of
+//! each part tells all headers apart that such lists can tell apart; of protocols, one with ports and one
+//! without.
 
-use crate::entry::{is_header, Box5, Entry, Header, List, FIELDS, TOP};
+use crate::entry::{is_header, Box6, Entry, Header, List, FIELDS, TOP};
 use crate::model::{allowed, catching, is_crossed, Refusal};
 
 /// Where the parts of each field start. The first protocols have no ports, 6 has, and the last two
 /// parts have protocols of both kinds.
-pub const STARTS: [[u32; 4]; FIELDS] =
-    [[0, 1, 2, 3], [0, 1, 2, 3], [0, 1, 2, 3], [0, 1, 2, 3], [0, 6, 7, 132]];
+pub const STARTS: [&[u32]; FIELDS] =
+    [&[0, 1, 2, 3], &[0, 1, 2, 3], &[0, 1, 2, 3], &[0, 1, 2, 3], &[0, 6, 7, 132], &[0, 1]];
 
 /// The least number of each part; of protocols, the least of each kind.
 const NUMBERS: [&[u32]; FIELDS] =
-    [&[0, 1, 2, 3], &[0, 1, 2, 3], &[0, 1, 2, 3], &[0, 1, 2, 3], &[0, 6, 7, 17, 132, 133]];
+    [&[0, 1, 2, 3], &[0, 1, 2, 3], &[0, 1, 2, 3], &[0, 1, 2, 3], &[0, 6, 7, 17, 132, 133], &[0, 1]];
 
 /// The last number of a part.
 pub fn end(f: usize, part: usize) -> u32 {
@@ -25,8 +26,8 @@ fn part_of(f: usize, x: u32) -> usize {
 }
 
 /// The box with the whole of each part in which a range starts or ends.
-pub fn small_box(b: &Box5) -> Box5 {
-    Box5 {
+pub fn small_box(b: &Box6) -> Box6 {
+    Box6 {
         low: std::array::from_fn(|f| STARTS[f][part_of(f, b.low[f])]),
         high: std::array::from_fn(|f| end(f, part_of(f, b.high[f]))),
     }

@@ -2,20 +2,21 @@
 //! libgateway.a, feature `measured` for libmeasured.a, an archive made for measuring alone:
 //!
 //! ```c
-//! /* The public search, in the selector of a record of 28 bytes. `want` is 0 for uncaught, 1 for
+//! /* The public search, in the selector of a record of 30 bytes. `want` is 0 for uncaught, 1 for
 //!    caught by entry `value`, 2 for a set other than `value`. 0 for none, 1 with the header in the
-//!    buffer's first 13 bytes, 256 plus the refusal's number. */
+//!    buffer's first 14 bytes, 256 plus the refusal's number. */
 //! uint32_t measured_search(const uint8_t *file, size_t file_len,
 //!                          const uint8_t *record, size_t record_len,
 //!                          uint32_t want, uint16_t value, uint8_t *header, size_t header_len);
-//! /* Lookup as a part of the file: the part's length, 0 or 28. */
+//! /* Lookup as a part of the file: the part's length, 0, 28 or 30. */
 //! size_t measured_part(const uint8_t *file, size_t file_len, uint32_t local, uint32_t remote,
-//!                      uint16_t local_port, uint16_t remote_port, uint8_t protocol);
-//! /* Lookup in a lent table: the entry's number, 256 for uncaught. An entry is 28 bytes, as
+//!                      uint16_t local_port, uint16_t remote_port, uint8_t protocol,
+//!                      uint8_t direction);
+//! /* Lookup in a lent table: the entry's number, 256 for uncaught. An entry is 32 bytes, as
 //!    baseline::Unpacked lays it out. */
 //! size_t measured_table(const struct entry *table, size_t table_len, uint32_t local,
 //!                       uint32_t remote, uint16_t local_port, uint16_t remote_port,
-//!                       uint8_t protocol);
+//!                       uint8_t protocol, uint8_t direction);
 //! /* Files an input of the program on a bench and merges into the buffer: the entry count, or 256
 //!    plus the refusal's number. */
 //! size_t measured_merge(const uint8_t *input, size_t input_len, uint8_t *file, size_t file_len);
@@ -26,7 +27,7 @@
 //! ```
 
 use crate::baseline::Unpacked;
-use crate::entry::{Box5, Entry, Header};
+use crate::entry::{Box6, Entry, Header};
 use crate::model::Want;
 
 pub struct Product {
@@ -76,7 +77,7 @@ pub struct Search {
     pub value: u16,
 }
 
-pub fn search_of(within: &Box5, want: Want) -> Search {
+pub fn search_of(within: &Box6, want: Want) -> Search {
     let entry = Entry { selector: *within, actions: 0 };
     let (want, value) = match want {
         Want::Uncaught => (0, 0),
@@ -110,6 +111,7 @@ mod measured {
             local_port: u16,
             remote_port: u16,
             protocol: u8,
+            direction: u8,
         ) -> usize;
         fn measured_table(
             table: *const Unpacked,
@@ -119,6 +121,7 @@ mod measured {
             local_port: u16,
             remote_port: u16,
             protocol: u8,
+            direction: u8,
         ) -> usize;
         fn measured_merge(
             input: *const u8,
@@ -155,15 +158,17 @@ mod measured {
     }
 
     pub fn part(file: &[u8], h: &Header) -> u32 {
-        let (ports, protocol) = ((h[2] as u16, h[3] as u16), h[4] as u8);
+        let (ports, last) = ((h[2] as u16, h[3] as u16), (h[4] as u8, h[5] as u8));
         let (bytes, length) = (file.as_ptr(), file.len());
-        unsafe { measured_part(bytes, length, h[0], h[1], ports.0, ports.1, protocol) as u32 }
+        unsafe { measured_part(bytes, length, h[0], h[1], ports.0, ports.1, last.0, last.1) as u32 }
     }
 
     pub fn table(table: &[Unpacked], h: &Header) -> u32 {
-        let (ports, protocol) = ((h[2] as u16, h[3] as u16), h[4] as u8);
+        let (ports, last) = ((h[2] as u16, h[3] as u16), (h[4] as u8, h[5] as u8));
         let (entries, length) = (table.as_ptr(), table.len());
-        unsafe { measured_table(entries, length, h[0], h[1], ports.0, ports.1, protocol) as u32 }
+        unsafe {
+            measured_table(entries, length, h[0], h[1], ports.0, ports.1, last.0, last.1) as u32
+        }
     }
 
     pub fn merge(input: &[u8], file: &mut [u8]) -> u32 {

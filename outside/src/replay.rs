@@ -3,13 +3,13 @@
 //! Input is calls, one after the other, the first an opening; output is a line for each. A call is
 //! its number (1 byte), then its arguments. Numbers are big-endian. Lent bytes are a length of
 //! 4 bytes and that many bytes. A lent buffer is a length of 4 bytes and a byte that fills it.
-//! Records, headers and boxes have the widths of a record.
+//! Records, headers and boxes have the widths of a record of version 2.
 //!
 //! A line is `ok` or `no` and the refusal's number, then values in decimal, each after a space; a
 //! header is its numbers. Where a buffer was lent, ` = ` and all of it in hexadecimal follow. What
 //! is not in this form ends the output with the line `bad`.
 
-use crate::entry::{box_bytes, header_bytes, records, Box5, Header, List, BOX, HEADER, RECORD};
+use crate::entry::{box_bytes, header_bytes, records, Box6, Header, List, BOX, HEADER, RECORD};
 use crate::model::{self, Bench, Refusal, Want, LIST_LIMIT};
 use crate::report::hexadecimal;
 use std::fmt;
@@ -52,12 +52,12 @@ pub enum Call {
     Withdraw { party: u8 },
     Merge { buffer: Buffer },
     Rewrite { file: Bytes, buffer: Buffer },
-    Write { count: usize, list: List, buffer: Buffer },
+    Write { version: u8, count: usize, list: List, buffer: Buffer },
     Lookup { file: Bytes, header: Header },
     LookupPart { file: Bytes, header: Header },
     LookupInTable { table: List, header: Header },
     Compare { first: Bytes, second: Bytes },
-    Search { file: Bytes, within: Box5, wanted: Wanted },
+    Search { file: Bytes, within: Box6, wanted: Wanted },
     Install { ranking: Bytes, buffer: Buffer },
     LookupInC { file: Bytes, header: Header },
     CompareInC { first: Bytes, second: Bytes, buffer: Buffer },
@@ -108,8 +108,8 @@ impl Call {
             Call::Withdraw { party } => vec![vec![*party]],
             Call::Merge { buffer } => vec![room(buffer)],
             Call::Rewrite { file, buffer } => vec![lent(file), room(buffer)],
-            Call::Write { count, list, buffer } => {
-                vec![four(*count), records(list), room(buffer)]
+            Call::Write { version, count, list, buffer } => {
+                vec![vec![*version], four(*count), records(list), room(buffer)]
             }
             Call::Lookup { file, header }
             | Call::LookupPart { file, header }
@@ -164,12 +164,13 @@ impl<'a> Rest<'a> {
         self.take(HEADER).map(model::header_at)
     }
 
-    fn within(&mut self) -> Option<Box5> {
+    fn within(&mut self) -> Option<Box6> {
         self.take(BOX).map(model::box_at)
     }
 
     fn entries(&mut self, count: usize) -> Option<List> {
-        Some(self.take(count * RECORD)?.chunks(RECORD).map(model::entry_at).collect())
+        let records = self.take(count * RECORD)?.chunks(RECORD);
+        Some(records.map(|record| model::entry_at(2, record)).collect())
     }
 
     fn table(&mut self) -> Option<List> {
@@ -183,9 +184,9 @@ impl<'a> Rest<'a> {
     }
 
     fn write(&mut self) -> Option<Call> {
-        let count = self.number(4)?;
+        let (version, count) = (self.byte()?, self.number(4)?);
         let list = self.entries(count.min(LIST_LIMIT))?;
-        Some(Call::Write { count, list, buffer: self.buffer()? })
+        Some(Call::Write { version, count, list, buffer: self.buffer()? })
     }
 
     fn call(&mut self) -> Option<Call> {
@@ -274,7 +275,7 @@ fn compare_line(first: &[u8], second: &[u8]) -> String {
     }
 }
 
-fn search(file: &[u8], within: &Box5, wanted: &Wanted) -> Answer {
+fn search(file: &[u8], within: &Box6, wanted: &Wanted) -> Answer {
     let want = match wanted.way {
         0 => Want::Uncaught,
         1 => Want::CaughtBy(wanted.number as usize),
@@ -306,8 +307,8 @@ pub fn answer(bench: &mut Bench, call: &Call) -> String {
         Call::Rewrite { file, buffer } => {
             lending(buffer, |bytes| model::rewrite(&file.0, bytes).map(|length| vec![length]))
         }
-        Call::Write { count, list, buffer } => lending(buffer, |bytes| {
-            model::write_counted(*count, list, bytes).map(|length| vec![length])
+        Call::Write { version, count, list, buffer } => lending(buffer, |bytes| {
+            model::write(*version, *count, list, bytes).map(|length| vec![length])
         }),
         Call::Lookup { file, header } => answer_line(model::lookup(&file.0, header).map(caught)),
         Call::LookupPart { file, header } => part_line(&file.0, header),

@@ -3,9 +3,8 @@
 //! works on the file's bytes as the product does; `Decoded` is the fastest version we know of, over
 //! decoded selectors, which keeps for each box only the records that meet it.
 
-use crate::entry::{Box5, Entry, Header, List, ALL, FIELDS, RECORD};
-use crate::entry::{LOCAL_PORT, PROTOCOL, REMOTE_PORT, WITH_PORTS};
-use crate::model::holds as contains;
+use crate::entry::{Box6, Entry, Header, List, ALL, FIELDS, IN, OUT, RECORD};
+use crate::entry::{DIRECTION, LOCAL_PORT, PROTOCOL, REMOTE_PORT, WITH_PORTS};
 use std::ops::Range;
 
 /// How much more a record counts in the pick for each field in which it reaches the box's end: such
@@ -18,7 +17,7 @@ pub type Part = (usize, Range<usize>);
 /// Two lists that can be searched.
 pub trait Lists {
     fn count(&self, list: usize) -> usize;
-    fn selector(&self, list: usize, i: usize) -> Box5;
+    fn selector(&self, list: usize, i: usize) -> Box6;
     fn actions(&self, list: usize, i: usize) -> u16;
 
     /// Whether one of the first `n` entries of the first list matches `h`.
@@ -30,17 +29,17 @@ pub trait Lists {
         &self,
         a: Part,
         b: Part,
-        x: &Box5,
+        x: &Box6,
         best: Option<Header>,
         boxes: &mut u64,
     ) -> Option<Header>;
 }
 
-pub fn is_proper(x: &Box5) -> bool {
-    (0..FIELDS).all(|f| x.low[f] <= x.high[f])
+pub fn is_proper(x: &Box6) -> bool {
+    (0..FIELDS).all(|f| x.low[f] <= x.high[f]) && x.high[DIRECTION] <= OUT
 }
 
-pub fn common_part(a: &Box5, b: &Box5) -> Box5 {
+pub fn common_part(a: &Box6, b: &Box6) -> Box6 {
     let mut r = *a;
     for f in 0..FIELDS {
         r.low[f] = a.low[f].max(b.low[f]);
@@ -60,7 +59,7 @@ fn last_with_ports(p: u32) -> Option<u32> {
 }
 
 /// A proper box with the same headers, whose low corner is one of them; none if there is no header.
-pub fn trimmed(x: &Box5) -> Option<Box5> {
+pub fn trimmed(x: &Box6) -> Option<Box6> {
     let mut r = *x;
     let has_port = x.low[LOCAL_PORT] > 0 || x.low[REMOTE_PORT] > 0;
     let end = x.high[PROTOCOL];
@@ -77,7 +76,7 @@ pub fn trimmed(x: &Box5) -> Option<Box5> {
 }
 
 /// The fields in which a record ends inside the box, those first whose cut the fewest records cross.
-fn cut_order(x: &Box5, high: &Header, crossing: &[u32; FIELDS]) -> ([usize; FIELDS], usize) {
+fn cut_order(x: &Box6, high: &Header, crossing: &[u32; FIELDS]) -> ([usize; FIELDS], usize) {
     let mut order = [0; FIELDS];
     let mut n = 0;
     for f in (0..FIELDS).rev() {
@@ -96,7 +95,10 @@ fn cut_order(x: &Box5, high: &Header, crossing: &[u32; FIELDS]) -> ([usize; FIEL
 
 // ---------------------------------------------------------------- over the file's bytes
 
-/// Two slices of 28-byte records.
+/// Bytes of a record in a file of version 1.
+pub const SHORT: usize = RECORD - 2;
+
+/// Two slices of 30-byte records.
 pub struct Packed<'a> {
     pub lists: [&'a [u8]; 2],
 }
@@ -104,72 +106,90 @@ pub struct Packed<'a> {
 type Record = [u8; RECORD];
 
 /// The records of a slice.
-fn records(bytes: &[u8]) -> &[Record] {
+fn records<const N: usize>(bytes: &[u8]) -> &[[u8; N]] {
     bytes.as_chunks().0
 }
 
 #[inline(always)]
-fn number4(r: &Record, at: usize) -> u32 {
+fn number4<const N: usize>(r: &[u8; N], at: usize) -> u32 {
     u32::from_be_bytes([r[at], r[at + 1], r[at + 2], r[at + 3]])
 }
 
 #[inline(always)]
-fn number2(r: &Record, at: usize) -> u32 {
+fn number2<const N: usize>(r: &[u8; N], at: usize) -> u32 {
     u16::from_be_bytes([r[at], r[at + 1]]) as u32
 }
 
-/// A field's range. With a constant field, no more than two loads are left of it.
+/// A field's range, in a record of either version. With a constant field, no more than two loads are
+/// left of it.
 #[inline(always)]
-fn range(r: &Record, f: usize) -> (u32, u32) {
+fn range<const N: usize>(r: &[u8; N], f: usize) -> (u32, u32) {
     match f {
         0 => (number4(r, 0), number4(r, 4)),
         1 => (number4(r, 8), number4(r, 12)),
         2 => (number2(r, 16), number2(r, 18)),
         3 => (number2(r, 20), number2(r, 22)),
-        _ => (r[24] as u32, r[25] as u32),
+        4 => (r[24] as u32, r[25] as u32),
+        _ if N == SHORT => (IN, OUT),
+        _ => (r[26] as u32, r[27] as u32),
     }
 }
 
-fn actions(r: &Record) -> u16 {
-    number2(r, 26) as u16
+fn actions<const N: usize>(r: &[u8; N]) -> u16 {
+    number2(r, N - 2) as u16
 }
 
 #[inline(always)]
-fn holds(r: &Record, f: usize, x: u32) -> bool {
+fn holds<const N: usize>(r: &[u8; N], f: usize, x: u32) -> bool {
     let (low, high) = range(r, f);
     low <= x && x <= high
 }
 
-/// Whether a record holds all five numbers, reading no more of it than needed.
+/// Whether a record holds all six numbers, reading no more of it than needed.
 #[inline(always)]
-fn holds_all(r: &Record, x: &Header) -> bool {
+fn holds_all<const N: usize>(r: &[u8; N], x: &Header) -> bool {
     holds(r, 0, x[0])
         && holds(r, 1, x[1])
         && holds(r, 2, x[2])
         && holds(r, 3, x[3])
         && holds(r, 4, x[4])
+        && holds(r, 5, x[5])
 }
 
 #[inline(always)]
-fn is_ordered(r: &Record, f: usize) -> bool {
+fn is_ordered<const N: usize>(r: &[u8; N], f: usize) -> bool {
     let (low, high) = range(r, f);
     low <= high
 }
 
-/// Whether no record has a crossed range.
-pub fn are_proper(bytes: &[u8]) -> bool {
-    records(bytes).iter().all(|r| {
+/// Whether no record has a crossed range, or a direction above 1.
+pub fn are_proper<const N: usize>(bytes: &[u8]) -> bool {
+    records::<N>(bytes).iter().all(|r| {
         is_ordered(r, 0)
             && is_ordered(r, 1)
             && is_ordered(r, 2)
             && is_ordered(r, 3)
             && is_ordered(r, 4)
+            && is_ordered(r, 5)
+            && range(r, DIRECTION).1 <= OUT
     })
+}
+
+/// Records of version 1 as version 2 has them.
+pub fn lengthened(bytes: &[u8]) -> Vec<u8> {
+    let with_directions = |r: &[u8; SHORT]| {
+        let mut long = [0; RECORD];
+        long[..SHORT - 2].copy_from_slice(&r[..SHORT - 2]);
+        long[SHORT - 2..SHORT].copy_from_slice(&[IN as u8, OUT as u8]);
+        long[SHORT..].copy_from_slice(&r[SHORT - 2..]);
+        long
+    };
+    records(bytes).iter().flat_map(with_directions).collect()
 }
 
 /// How much a field counts in the pick.
 #[inline(always)]
-fn width(r: &Record, f: usize, x: &Box5) -> f64 {
+fn width(r: &Record, f: usize, x: &Box6) -> f64 {
     let end = range(r, f).1;
     if end < x.high[f] {
         (end - x.low[f]) as f64 + 1.0
@@ -180,31 +200,32 @@ fn width(r: &Record, f: usize, x: &Box5) -> f64 {
 
 /// The size for the pick of a record that holds the low corner.
 #[inline(always)]
-fn size(r: &Record, x: &Box5) -> f64 {
-    width(r, 0, x) * width(r, 1, x) * width(r, 2, x) * width(r, 3, x) * width(r, 4, x)
+fn size(r: &Record, x: &Box6) -> f64 {
+    let addresses = width(r, 0, x) * width(r, 1, x);
+    addresses * width(r, 2, x) * width(r, 3, x) * width(r, 4, x) * width(r, 5, x)
 }
 
 /// The size of a record that covers half of `x` in one field and all of it in the others: a heavier
 /// one need not be looked for.
-fn enough(x: &Box5) -> f64 {
+fn enough(x: &Box6) -> f64 {
     let full = (0..FIELDS).map(|f| ((x.high[f] - x.low[f]) as f64 + 1.0) * REACHES);
     full.product::<f64>() / (REACHES * 2.0)
 }
 
 /// Whether a record that holds the low corner of `x` holds all of it.
 #[inline(always)]
-fn reaches(r: &Record, x: &Box5) -> bool {
+fn reaches(r: &Record, x: &Box6) -> bool {
     (0..FIELDS).all(|f| x.high[f] <= range(r, f).1)
 }
 
 /// How many records there are up to the last that holds the low corner.
-fn up_to_last(list: &[Record], x: &Box5) -> usize {
+fn up_to_last(list: &[Record], x: &Box6) -> usize {
     list.iter().rposition(|r| holds_all(r, &x.low)).map_or(0, |i| i + 1)
 }
 
 /// Where the largest record that holds the low corner of `x` ends in it. Most boxes are covered by
 /// the last such record of a list, or held by it alone: no size is reckoned before that is known.
-fn pick(lists: [&[Record]; 2], x: &Box5) -> Option<Header> {
+fn pick(lists: [&[Record]; 2], x: &Box6) -> Option<Header> {
     let firsts = lists.map(|list| &list[..up_to_last(list, x)]);
     for list in firsts {
         if list.last().is_some_and(|r| reaches(r, x)) {
@@ -247,7 +268,7 @@ fn pick(lists: [&[Record]; 2], x: &Box5) -> Option<Header> {
 }
 
 #[inline(always)]
-fn overlaps(r: &Record, f: usize, x: &Box5) -> bool {
+fn overlaps(r: &Record, f: usize, x: &Box6) -> bool {
     let (low, high) = range(r, f);
     low <= x.high[f] && x.low[f] <= high
 }
@@ -259,7 +280,7 @@ fn crosses(r: &Record, f: usize, end: &Header) -> u32 {
 }
 
 /// For each field, how many records that meet `x` cross the cut.
-fn crossing(lists: [&[Record]; 2], x: &Box5, end: &Header) -> [u32; FIELDS] {
+fn crossing(lists: [&[Record]; 2], x: &Box6, end: &Header) -> [u32; FIELDS] {
     let mut counts = [0; FIELDS];
     for list in lists {
         for r in list {
@@ -267,13 +288,15 @@ fn crossing(lists: [&[Record]; 2], x: &Box5, end: &Header) -> [u32; FIELDS] {
                 && overlaps(r, 1, x)
                 && overlaps(r, 2, x)
                 && overlaps(r, 3, x)
-                && overlaps(r, 4, x);
+                && overlaps(r, 4, x)
+                && overlaps(r, 5, x);
             if meets {
                 counts[0] += crosses(r, 0, end);
                 counts[1] += crosses(r, 1, end);
                 counts[2] += crosses(r, 2, end);
                 counts[3] += crosses(r, 3, end);
                 counts[4] += crosses(r, 4, end);
+                counts[5] += crosses(r, 5, end);
             }
         }
     }
@@ -282,7 +305,7 @@ fn crossing(lists: [&[Record]; 2], x: &Box5, end: &Header) -> [u32; FIELDS] {
 
 fn least_packed(
     records: [&[Record]; 2],
-    x: &Box5,
+    x: &Box6,
     best: Option<Header>,
     boxes: &mut u64,
 ) -> Option<Header> {
@@ -325,7 +348,7 @@ impl Lists for Packed<'_> {
         self.lists[list].len() / RECORD
     }
 
-    fn selector(&self, list: usize, i: usize) -> Box5 {
+    fn selector(&self, list: usize, i: usize) -> Box6 {
         selector_of(self.record(list, i))
     }
 
@@ -341,7 +364,7 @@ impl Lists for Packed<'_> {
         &self,
         a: Part,
         b: Part,
-        x: &Box5,
+        x: &Box6,
         best: Option<Header>,
         boxes: &mut u64,
     ) -> Option<Header> {
@@ -353,9 +376,12 @@ impl Lists for Packed<'_> {
 }
 
 /// The selector of a record.
-fn selector_of(r: &Record) -> Box5 {
-    let ranges: [(u32, u32); FIELDS] = std::array::from_fn(|f| range(r, f));
-    Box5 { low: ranges.map(|(low, _)| low), high: ranges.map(|(_, high)| high) }
+/// Each field by itself: the compiler makes a loop of six, and asks in it which field it is at.
+#[inline(always)]
+fn selector_of(r: &Record) -> Box6 {
+    let ranges: [(u32, u32); FIELDS] =
+        [range(r, 0), range(r, 1), range(r, 2), range(r, 3), range(r, 4), range(r, 5)];
+    Box6 { low: ranges.map(|(low, _)| low), high: ranges.map(|(_, high)| high) }
 }
 
 // ---------------------------------------------------------------- over decoded selectors
@@ -367,7 +393,7 @@ pub struct Decoded<'a> {
 
 /// The entries of records.
 pub fn decode(bytes: &[u8]) -> List {
-    let entry = |r| Entry { selector: selector_of(r), actions: actions(r) };
+    let entry = |r: &Record| Entry { selector: selector_of(r), actions: actions(r) };
     records(bytes).iter().map(entry).collect()
 }
 
@@ -384,10 +410,10 @@ enum Corner {
 
 /// What more records say.
 #[inline(always)]
-fn corner<'r>(before: Corner, records: impl Iterator<Item = &'r Box5>, x: &Box5) -> Corner {
+fn corner<'r>(before: Corner, records: impl Iterator<Item = &'r Box6>, x: &Box6) -> Corner {
     let mut best = before;
     for r in records {
-        if (0..FIELDS).all(|f| r.low[f] <= x.low[f] && x.low[f] <= r.high[f]) {
+        if contains(r, &x.low) {
             let mut end = x.high;
             let mut size = 1.0;
             for f in 0..FIELDS {
@@ -408,16 +434,20 @@ fn corner<'r>(before: Corner, records: impl Iterator<Item = &'r Box5>, x: &Box5)
     best
 }
 
-fn meets(r: &Box5, x: &Box5) -> bool {
+fn contains(r: &Box6, h: &Header) -> bool {
+    (0..FIELDS).all(|f| r.low[f] <= h[f] && h[f] <= r.high[f])
+}
+
+fn meets(r: &Box6, x: &Box6) -> bool {
     (0..FIELDS).all(|f| r.low[f] <= x.high[f] && x.low[f] <= r.high[f])
 }
 
 /// Searches the pieces that a record which ends at `end` leaves of `x`. The records from `from` on
 /// are those that meet `x`.
 fn least_in_pieces(
-    records: &mut Vec<Box5>,
+    records: &mut Vec<Box6>,
     from: usize,
-    x: &Box5,
+    x: &Box6,
     end: &Header,
     best: Option<Header>,
     boxes: &mut u64,
@@ -463,7 +493,7 @@ impl Lists for Decoded<'_> {
         self.lists[list].len()
     }
 
-    fn selector(&self, list: usize, i: usize) -> Box5 {
+    fn selector(&self, list: usize, i: usize) -> Box6 {
         self.lists[list][i].selector
     }
 
@@ -479,7 +509,7 @@ impl Lists for Decoded<'_> {
         &self,
         a: Part,
         b: Part,
-        x: &Box5,
+        x: &Box6,
         best: Option<Header>,
         boxes: &mut u64,
     ) -> Option<Header> {
@@ -501,7 +531,7 @@ impl Lists for Decoded<'_> {
             Corner::Open => Some(x.low),
             Corner::Held(end, _) => {
                 let meeting = a.iter().chain(b).map(|e| e.selector).filter(|r| meets(r, x));
-                let mut records: Vec<Box5> = meeting.collect();
+                let mut records: Vec<Box6> = meeting.collect();
                 least_in_pieces(&mut records, 0, x, &end, best, boxes)
             }
         }
@@ -520,7 +550,7 @@ pub const LAST: usize = 32;
 pub fn missed_by_first(
     lists: &impl Lists,
     n: usize,
-    x: &Box5,
+    x: &Box6,
     last: usize,
     boxes: &mut u64,
 ) -> Option<Header> {
@@ -542,7 +572,7 @@ pub fn gap(lists: &impl Lists, boxes: &mut u64) -> Option<Header> {
 pub fn caught_by(
     lists: &impl Lists,
     i: usize,
-    x: &Box5,
+    x: &Box6,
     best: Option<Header>,
     boxes: &mut u64,
 ) -> Option<Header> {
@@ -554,7 +584,7 @@ pub fn caught_by(
 }
 
 /// The least header of `x` that the first list allows another set than `set`.
-pub fn differing(lists: &impl Lists, x: &Box5, set: u16, boxes: &mut u64) -> Option<Header> {
+pub fn differing(lists: &impl Lists, x: &Box6, set: u16, boxes: &mut u64) -> Option<Header> {
     let n = lists.count(0);
     let mut best = lists.least_open((0, 0..n), NONE, x, None, boxes);
     for i in 0..n {
@@ -606,7 +636,7 @@ pub fn unrefined(lists: &impl Lists, boxes: &mut u64) -> Option<Header> {
     (0..lists.count(0)).fold(None, |best, i| unrefined_by(lists, i, best, boxes))
 }
 
-/// The number of the first record that matches.
-pub fn lookup_packed(bytes: &[u8], h: &Header) -> Option<usize> {
-    records(bytes).iter().position(|r| holds_all(r, h))
+/// The number of the first record that matches, of records of N bytes.
+pub fn lookup_packed<const N: usize>(bytes: &[u8], h: &Header) -> Option<usize> {
+    records::<N>(bytes).iter().position(|r| holds_all(r, h))
 }

@@ -3,9 +3,9 @@
 use outside::baseline;
 use outside::cells;
 use outside::daemon_cases::{comparisons, lookups};
-use outside::entry::{file, header_bytes, is_header, records, Entry, Header, List, ALL};
+use outside::entry::{header_bytes, is_header, Entry, Header, List, ALL, HEADER, RECORD};
 use outside::generate::{any_list, box_near, header_near, long_list, program_input, Sets};
-use outside::generate::{good_ranking, some_ranking};
+use outside::generate::{cross_one, file_in_some_version, good_ranking, some_ranking};
 use outside::merge::{install, merge, Form, Merged};
 use outside::model::{self, Bench, Refusal, Want, LONGEST_FILE};
 use outside::random::Random;
@@ -42,20 +42,22 @@ fn searches(cases: &mut Cases, wanted: usize, random: &mut Random) {
             0 => long_list(random),
             _ => any_list(20, Sets::OneOf(6, 12), random),
         };
+        let file = file_in_some_version(&list, random);
+        let bytes = baseline::records(&file, 256).expect("a good file");
+        let list = decode(&bytes);
         let within = box_near(&list, random);
         let want = match random.below(3) {
             0 => Want::Uncaught,
             1 => Want::CaughtBy(random.below(list.len() as u64 + 1) as usize),
             _ => Want::Differing(*random.pick(&[6, 12, list[0].actions])),
         };
-        let expected = model::search(&file(&list), &within, want).unwrap();
-        let bytes = records(&list);
+        let expected = model::search(&file, &within, want).unwrap();
         let case = || format!("{want:?} in {within:?} of {list:?}");
         let packed = Packed { lists: [&bytes, &[]] };
         cases.same(baseline::search(&packed, &within, want, &mut 0), expected, case);
         let decoded = Decoded { lists: [&list, &[]] };
         cases.same(baseline::search(&decoded, &within, want, &mut 0), expected, case);
-        let uncaught = model::search(&file(&list), &ALL, Want::Uncaught).unwrap();
+        let uncaught = model::search(&file, &ALL, Want::Uncaught).unwrap();
         cases.same(cells::gap(&list, 1_000_000), Ok(uncaught), case);
     }
 }
@@ -116,7 +118,7 @@ fn number(answer: Result<(usize, usize), Refusal>) -> u32 {
 
 /// A buffer's length: for the longest file, or about that of a short one.
 fn some_length(random: &mut Random) -> usize {
-    let about = 5 + 28 * random.below(12) as usize;
+    let about = 5 + RECORD * random.below(12) as usize;
     *random.pick(&[LONGEST_FILE, LONGEST_FILE, about, about - 1, about + 1])
 }
 
@@ -149,8 +151,20 @@ fn inputs(cases: &mut Cases, wanted: usize, random: &mut Random) {
 /// Lookup in a table, answered as the daemon's call is.
 fn lookup_in_table(file: &[u8], h: &Header) -> u32 {
     match baseline::records(file, 256) {
-        Ok(records) => baseline::lookup_unpacked(&baseline::unpack(&decode(records)), h),
+        Ok(records) => baseline::lookup_unpacked(&baseline::unpack(&decode(&records)), h),
         Err(refusal) => 256 + refusal,
+    }
+}
+
+/// Lookups in tables with crossed entries.
+fn tables(cases: &mut Cases, wanted: usize, random: &mut Random) {
+    for _ in 0..wanted {
+        let mut table = any_list(6, Sets::Any, random);
+        let header = header_near(&table, random);
+        (0..random.between(1, 3)).for_each(|_| cross_one(&mut table, random));
+        let expected = model::lookup_in_table(&table, &header).unwrap_or(256) as u32;
+        let found = baseline::lookup_unpacked(&baseline::unpack(&table), &header);
+        cases.same(found, expected, || format!("lookup of {header:?} in {table:?}"));
     }
 }
 
@@ -158,11 +172,11 @@ fn lookup_in_table(file: &[u8], h: &Header) -> u32 {
 fn compare_by_cells(first: &[u8], second: &[u8], header: &mut [u8]) -> u32 {
     let answer = baseline::compare(first, second, header);
     if answer <= 1 {
-        let (p, q) = (decode(&first[5..]), decode(&second[5..]));
+        let [p, q] = [first, second].map(|file| decode(&baseline::records(file, 256).unwrap()));
         let found = cells::unrefined(&p, &q, 1_000_000).expect("within the limit");
         assert_eq!(found.is_some(), answer == 1);
-        if let (Some(h), true) = (found, header.len() >= 13) {
-            header[..13].copy_from_slice(&header_bytes(&h));
+        if let (Some(h), true) = (found, header.len() >= HEADER) {
+            header[..HEADER].copy_from_slice(&header_bytes(&h));
         }
     }
     answer
@@ -174,6 +188,7 @@ fn main() {
     let mut random = Random::new(30);
     lookups(&mut cases, wanted / 5, &mut random, &baseline::lookup);
     lookups(&mut cases, wanted / 5, &mut random, &lookup_in_table);
+    tables(&mut cases, wanted / 10, &mut random);
     comparisons(&mut cases, wanted / 4, &mut random, &baseline::compare);
     comparisons(&mut cases, wanted / 4, &mut random, &baseline::compare_decoded);
     comparisons(&mut cases, wanted / 10, &mut random, &compare_by_cells);

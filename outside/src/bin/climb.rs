@@ -5,6 +5,7 @@ use outside::baseline::merge_input;
 use outside::entry::{file, Entry, List, FIELDS, TOP};
 use outside::generate::{family, Closing, Shape};
 use outside::merge::Form;
+use outside::model::LONGEST_FILE;
 use outside::random::Random;
 use outside::search::{gap, Packed};
 use std::time::{Duration, Instant};
@@ -25,7 +26,7 @@ fn input(lists: &[List]) -> Vec<u8> {
 
 fn boxes(lists: &[List]) -> u64 {
     let mut boxes = 0;
-    merge_input(&input(lists), &mut [0; 7173], Form::Packed, &mut boxes);
+    merge_input(&input(lists), &mut [0; LONGEST_FILE], Form::Packed, &mut boxes);
     boxes
 }
 

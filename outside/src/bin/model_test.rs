@@ -1,11 +1,12 @@
-//! The model against the examples of 01, of Wish 1 and of Wish 2, against the point-by-point walk of
+//! The model against the examples of 01 and of Wishes 1, 2 and 4, against the point-by-point walk of
 //! small header spaces, and its bench against the history of calls.
 
 use outside::calls::{bench_calls, call_list};
-use outside::entry::{file, is_header, Box5, Entry, Header, List, ALL};
+use outside::entry::{both_ways, file, file_in, header_bytes, is_header, VERSIONS};
+use outside::entry::{Box6, Entry, Header, List, ALL, DIRECTION, IN, OUT};
 use outside::generate::{box_near, only, shaped_list, single_ports, small_list, Sets, CROWDS};
-use outside::generate::{some_ranking, RISING};
-use outside::model::{self, allowed, holds, Bench, Refusal, Want};
+use outside::generate::{leave_directions, some_ranking, RISING};
+use outside::model::{self, allowed, holds, Bench, Refusal, Versioned, Want};
 use outside::points::{combinations, is_small, least_uncaught, merged, points, small_box};
 use outside::points::{common_actions, foremost, installed, is_needless, keeping_foremost, struck};
 use outside::random::Random;
@@ -16,7 +17,7 @@ const DISCARD: u16 = 1;
 const BYPASS: u16 = 2;
 const ESP: u16 = 4;
 
-fn entry(selector: Box5, actions: u16) -> Entry {
+fn entry(selector: Box6, actions: u16) -> Entry {
     Entry { selector, actions }
 }
 
@@ -33,7 +34,7 @@ fn install_of(lists: &[List], ranking: &[u8]) -> Result<List, Refusal> {
 }
 
 /// Local port 80 with TCP.
-fn web() -> Box5 {
+fn web() -> Box6 {
     let mut web = only(2, 80, 80);
     (web.low[4], web.high[4]) = (6, 6);
     web
@@ -42,7 +43,7 @@ fn web() -> Box5 {
 /// The subnet of 004's appendix, and its part of the above.
 const SUBNET: (u32, u32) = (0x0a01_0000, 0x0a01_ffff);
 
-fn subnet_web() -> Box5 {
+fn subnet_web() -> Box6 {
     let mut subnet_web = web();
     (subnet_web.low[1], subnet_web.high[1]) = SUBNET;
     subnet_web
@@ -64,15 +65,15 @@ fn examples(cases: &mut Cases) {
     let looked_up = |list: &List, h| model::lookup(&file(list), &h);
 
     let p1 = vec![entry(ALL, DISCARD | BYPASS)];
-    cases.same(looked_up(&p1, [0; 5]), Ok(Some(0)), none);
+    cases.same(looked_up(&p1, [0; 6]), Ok(Some(0)), none);
 
     let p2 = vec![entry(web(), BYPASS), entry(ALL, DISCARD)];
-    cases.same(looked_up(&p2, [0, 0, 80, 0, 6]), Ok(Some(0)), none);
-    cases.same(looked_up(&p2, [0, 0, 79, 0, 6]), Ok(Some(1)), none);
-    cases.same(looked_up(&p2, [0, 0, 81, 0, 6]), Ok(Some(1)), none);
+    cases.same(looked_up(&p2, [0, 0, 80, 0, 6, 0]), Ok(Some(0)), none);
+    cases.same(looked_up(&p2, [0, 0, 79, 0, 6, 0]), Ok(Some(1)), none);
+    cases.same(looked_up(&p2, [0, 0, 81, 0, 6, 0]), Ok(Some(1)), none);
 
     let p3 = vec![entry(only(4, 0, 254), DISCARD)];
-    cases.same(model::gap(&p3), Err(Refusal::Gap([0, 0, 0, 0, 255])), none);
+    cases.same(model::gap(&p3), Err(Refusal::Gap([0, 0, 0, 0, 255, 0])), none);
     let p4 = vec![
         entry(only(0, 0, 2147483647), DISCARD),
         entry(only(0, 2147483648, 4294967295), DISCARD),
@@ -80,14 +81,18 @@ fn examples(cases: &mut Cases) {
     cases.same(model::gap(&p4), Ok(()), none);
 
     let p5 = vec![entry(only(4, 5, 4), DISCARD)];
-    cases.same(model::read(&file(&p5), 256), Err(Refusal::Crossed(0)), none);
     let good = vec![entry(only(4, 5, 5), DISCARD)];
-    cases.same(model::read(&file(&good), 256), Ok(good), none);
+    for version in VERSIONS {
+        let bytes = file_in(version, &p5);
+        cases.same(model::read(&bytes, 256), Err(Refusal::Crossed(0)), none);
+        let read = Versioned { version, entries: good.clone() };
+        cases.same(model::read(&file_in(version, &good), 256), Ok(read), none);
+    }
 
     let p6 = [vec![entry(ALL, BYPASS)], vec![entry(ALL, DISCARD)]];
-    cases.same(merge_of(&p6), Err(Refusal::Conflict([0; 5])), none);
+    cases.same(merge_of(&p6), Err(Refusal::Conflict([0; 6])), none);
 
-    cases.same(merge_of(&appendix(BYPASS)), Err(Refusal::Conflict([0, 0, 0, 0, 1])), none);
+    cases.same(merge_of(&appendix(BYPASS)), Err(Refusal::Conflict([0, 0, 0, 0, 1, 0])), none);
     let three = vec![entry(subnet_web(), BYPASS | ESP), entry(web(), ESP), entry(ALL, DISCARD)];
     cases.same(merge_of(&appendix(BYPASS | DISCARD)), Ok(three), none);
 
@@ -96,7 +101,7 @@ fn examples(cases: &mut Cases) {
 
     let icmp = only(4, 1, 1);
     let before = [vec![entry(icmp, 0), entry(ALL, DISCARD)]];
-    cases.same(merge_of(&before), Err(Refusal::Conflict([0, 0, 0, 0, 1])), none);
+    cases.same(merge_of(&before), Err(Refusal::Conflict([0, 0, 0, 0, 1, 0])), none);
     let after = [vec![entry(ALL, DISCARD), entry(icmp, 0)]];
     cases.same(merge_of(&after), Ok(vec![entry(ALL, DISCARD)]), none);
 
@@ -109,10 +114,12 @@ fn examples(cases: &mut Cases) {
     cases.same(working(&fifteen), Ok(256), none);
     cases.same(working(&sixteen), Err(Refusal::Crowded), none);
 
-    let shown = "filed 1 1\nmerged 1\n00000000ffffffff00000000ffffffff0000ffff0000ffff00ff0003\n";
-    let mut input = vec![1];
-    input.extend(file(&p1));
-    cases.same(model::program(&input), shown.to_string(), none);
+    let shown =
+        "filed 1 1\nmerged 1\n00000000ffffffff00000000ffffffff0000ffff0000ffff00ff00010003\n";
+    for version in VERSIONS {
+        let input = [vec![1], file_in(version, &p1)].concat();
+        cases.same(model::program(&input), shown.to_string(), none);
+    }
     cases.same(model::program(&[]), "refused 0 8\n".to_string(), none);
 }
 
@@ -124,9 +131,11 @@ fn ports_where_there_are_ports(cases: &mut Cases) {
     for p in 0..=255 {
         let has_ports = matches!(p, 6 | 17 | 33 | 132 | 136);
         let protocol = || format!("protocol {p}");
-        cases.same(is_header(&[1, 2, 0, 0, p]), true, protocol);
-        for ports in [(80, 0), (0, 80), (1, 65535)] {
-            cases.same(is_header(&[1, 2, ports.0, ports.1, p]), has_ports, protocol);
+        for d in [IN, OUT] {
+            cases.same(is_header(&[1, 2, 0, 0, p, d]), true, protocol);
+            for ports in [(80, 0), (0, 80), (1, 65535)] {
+                cases.same(is_header(&[1, 2, ports.0, ports.1, p, d]), has_ports, protocol);
+            }
         }
     }
 
@@ -140,7 +149,7 @@ fn ports_where_there_are_ports(cases: &mut Cases) {
     cases.same(merge_of(&clinic), Ok(three), none);
     let mut tcp = clinic.clone();
     tcp[1][0].selector = only(4, 6, 6);
-    cases.same(merge_of(&tcp), Err(Refusal::Conflict([0, 0, 80, 0, 6])), none);
+    cases.same(merge_of(&tcp), Err(Refusal::Conflict([0, 0, 80, 0, 6, 0])), none);
 
     // Protocols 0 to 5 are matched with port 0 alone, and they have no other.
     let mut zero = only(2, 0, 0);
@@ -148,14 +157,14 @@ fn ports_where_there_are_ports(cases: &mut Cases) {
     let covering = vec![entry(zero, DISCARD), entry(only(4, 6, 255), DISCARD)];
     cases.same(model::gap(&covering), Ok(()), none);
     let gap = vec![entry(zero, DISCARD), entry(only(4, 7, 255), DISCARD)];
-    cases.same(model::gap(&gap), Err(Refusal::Gap([0, 0, 0, 1, 6])), none);
+    cases.same(model::gap(&gap), Err(Refusal::Gap([0, 0, 0, 1, 6, 0])), none);
 
     // Lookup: uncaught, but the file is checked first.
-    cases.same(looked_up(&clinic[0], [0, 0, 80, 0, 47]), Ok(None), none);
-    cases.same(looked_up(&clinic[0], [0, 0, 80, 0, 17]), Ok(Some(0)), none);
-    cases.same(looked_up(&clinic[0], [0, 0, 0, 0, 47]), Ok(Some(1)), none);
+    cases.same(looked_up(&clinic[0], [0, 0, 80, 0, 47, 0]), Ok(None), none);
+    cases.same(looked_up(&clinic[0], [0, 0, 80, 0, 17, 0]), Ok(Some(0)), none);
+    cases.same(looked_up(&clinic[0], [0, 0, 0, 0, 47, 0]), Ok(Some(1)), none);
     let crossed = vec![entry(ALL, DISCARD), entry(only(4, 5, 4), DISCARD)];
-    cases.same(looked_up(&crossed, [0, 0, 80, 0, 47]), Err(Refusal::Crossed(1)), none);
+    cases.same(looked_up(&crossed, [0, 0, 80, 0, 47, 0]), Err(Refusal::Crossed(1)), none);
 
     // Pairs that match no header are dropped before the working list is counted.
     for crowd in &CROWDS[CROWDS.len() - 2..] {
@@ -255,22 +264,22 @@ fn refusals_of_installing(cases: &mut Cases) {
     cases.same(install_of(&[], &RISING), Err(Refusal::Bare), none);
     cases.same(Bench::default().install(&RISING, &mut []), Err(Refusal::Bare), none);
     cases.same(install_of(&crowd, &RISING), Err(Refusal::Crowded), none);
-    cases.same(install_of(&clash, &RISING), Err(Refusal::Conflict([0; 5])), none);
+    cases.same(install_of(&clash, &RISING), Err(Refusal::Conflict([0; 6])), none);
 }
 
-/// How long the buffer has to be: three entries have a file of 89 bytes, two one of 61.
+/// How long the buffer has to be: three entries have a file of 95 bytes, two one of 65.
 fn room_to_install(cases: &mut Cases) {
     let mut bench = Bench::default();
-    cases.same(bench.file(1, &file(&overlapping())), Ok(3), || "filing".into());
+    cases.same(bench.file(1, &file_in(1, &overlapping())), Ok(3), || "filing".into());
     let falling = turned(&RISING);
     for (ranking, length, expected) in [
-        (&RISING[..], 0, Err(Refusal::Narrow(61))),
-        (&RISING, 60, Err(Refusal::Narrow(61))),
-        (&RISING, 61, Ok((2, 61))),
-        (&RISING, 88, Ok((2, 61))),
-        (&RISING, 100, Ok((2, 61))),
-        (&falling, 88, Err(Refusal::Narrow(89))),
-        (&falling, 89, Ok((3, 89))),
+        (&RISING[..], 0, Err(Refusal::Narrow(65))),
+        (&RISING, 64, Err(Refusal::Narrow(65))),
+        (&RISING, 65, Ok((2, 65))),
+        (&RISING, 94, Ok((2, 65))),
+        (&RISING, 100, Ok((2, 65))),
+        (&falling, 94, Err(Refusal::Narrow(95))),
+        (&falling, 95, Ok((3, 95))),
     ] {
         let case = || format!("{length} bytes for installing by {ranking:?}");
         let mut buffer = vec![0x77; length];
@@ -278,8 +287,213 @@ fn room_to_install(cases: &mut Cases) {
         let written = expected.map_or(0, |(_, length)| length);
         cases.same(buffer[written..].iter().all(|b| *b == 0x77), true, case);
     }
-    cases.same(bench.merge(&mut [0; 88]), Err(Refusal::Narrow(89)), || "merging".into());
-    cases.same(bench.merge(&mut [0; 89]), Ok((3, 89)), || "merging".into());
+    cases.same(bench.merge(&mut [0; 94]), Err(Refusal::Narrow(95)), || "merging".into());
+    cases.same(bench.merge(&mut [0; 95]), Ok((3, 95)), || "merging".into());
+}
+
+// ---------------------------------------------------------------- inbound and outbound: Wish 4 of 02
+
+/// ALL for a range of directions.
+fn ways(low: u32, high: u32, actions: u16) -> Entry {
+    entry(only(DIRECTION, low, high), actions)
+}
+
+fn bytes_of(hexadecimal: &str) -> Vec<u8> {
+    let digits: Vec<u8> = hexadecimal.bytes().filter(|digit| *digit != b' ').collect();
+    let byte = |pair: &[u8]| u8::from_str_radix(std::str::from_utf8(pair).unwrap(), 16).unwrap();
+    digits.chunks(2).map(byte).collect()
+}
+
+/// One entry for all headers, or in version 2 for those in direction 1.
+const ONE: &str = "001f 01 0001  00000000ffffffff 00000000ffffffff 0000ffff 0000ffff 00ff 0003";
+const TWO: &str =
+    "0021 02 0001  00000000ffffffff 00000000ffffffff 0000ffff 0000ffff 00ff 0101 0003";
+
+fn files_of_both_versions(cases: &mut Cases) {
+    let none = || "files of Wish 4".to_string();
+    let (one, two) = (bytes_of(ONE), bytes_of(TWO));
+    let read = |version, low, high| Versioned { version, entries: vec![ways(low, high, 3)] };
+    cases.same(model::read(&one, 256), Ok(read(1, IN, OUT)), none);
+    cases.same(model::read(&two, 256), Ok(read(2, OUT, OUT)), none);
+    for file in [&one, &two] {
+        let mut buffer = vec![9; file.len()];
+        cases.same(model::rewrite(file, &mut buffer), Ok(file.len()), none);
+        cases.same(&buffer, file, none);
+        let one_short = model::rewrite(file, &mut buffer[1..]);
+        cases.same(one_short, Err(Refusal::Narrow(file.len())), none);
+    }
+    // The other version's record is too short or too long, and other bytes are no version.
+    for (file, version, refusal) in [
+        (&one, 2, Refusal::Count),
+        (&two, 1, Refusal::Count),
+        (&one, 0, Refusal::Version),
+        (&two, 3, Refusal::Version),
+        (&two, 255, Refusal::Version),
+    ] {
+        let mut file = file.clone();
+        file[2] = version;
+        cases.same(model::read(&file, 256), Err(refusal), none);
+    }
+    // 15 records of version 1 have as many bytes as 14 of version 2.
+    for (version, count, expected) in [
+        (1, 15, Ok(15)),
+        (1, 14, Err(Refusal::Count)),
+        (2, 14, Ok(14)),
+        (2, 15, Err(Refusal::Count)),
+    ] {
+        // Every range is one of equal numbers, wherever a record starts.
+        let file = [vec![0x01, 0xa7, version, 0, count], vec![0; 420]].concat();
+        cases.same(model::read(&file, 256).map(|list| list.entries.len()), expected, none);
+    }
+    cases.same(model::LONGEST_FILE, 7685, none);
+    cases.same(file(&vec![ways(0, 1, 1); 32]).len(), 965, none);
+    cases.same(file_in(1, &vec![ways(0, 1, 1); 32]).len(), 901, none);
+}
+
+/// Directions in a file, in a box and in a table: what counts as crossed.
+fn directions_above_1(cases: &mut Cases) {
+    let h = |direction| [7, 8, 0, 0, 9, direction];
+    for low in [0, 1, 2, 3, 128, 255] {
+        for high in [0, 1, 2, 3, 128, 255] {
+            let case = || format!("directions {low} to {high}");
+            let is_good = matches!((low, high), (0, 0) | (0, 1) | (1, 1));
+            let list = [entry(ALL, DISCARD), ways(low, high, BYPASS)];
+            let read = model::read(&file(&list), 256);
+            cases.same(read.err(), (!is_good).then_some(Refusal::Crossed(1)), case);
+            let first =
+                (0..2).find(|d| is_good && low <= *d && *d <= high).map(|d| [0, 0, 0, 0, 0, d]);
+            let within = only(DIRECTION, low, high);
+            let all = bytes_of(ONE);
+            cases.same(model::search(&all, &within, Want::CaughtBy(0)), Ok(first), case);
+            cases.same(model::search(&all, &within, Want::Differing(9)), Ok(first), case);
+            for d in [0, 1, 2, 255] {
+                let found = model::lookup_in_table(&list[1..], &h(d));
+                let matches = is_good && d <= 1 && low <= d && d <= high;
+                cases.same(found, matches.then_some(0), case);
+            }
+        }
+    }
+    // A header has direction 0 or 1, in either version, and a file is checked first.
+    for (d, caught, part) in [(0, 0, 28), (1, 0, 28), (2, 256, 0), (3, 256, 0), (255, 256, 0)] {
+        let case = || format!("direction {d}");
+        let (one, two) = (bytes_of(ONE), bytes_of(TWO));
+        cases.same(is_header(&h(d)), d <= 1, case);
+        cases.same(model::lookup_number(&one, &h(d)), caught, case);
+        cases.same(model::lookup_part(&one, &h(d)).1, part, case);
+        cases.same(model::lookup_number(&two, &h(d)), if d == 1 { 0 } else { 256 }, case);
+        cases.same(model::lookup_part(&two, &h(d)).1, if d == 1 { 30 } else { 0 }, case);
+        cases.same(model::lookup_number(&one[1..], &h(d)), 257, case);
+    }
+}
+
+/// Writing makes checks 2, 3, 4 and 11, and in version 1 has no directions but both.
+fn writing_in_a_version(cases: &mut Cases) {
+    let (both, out, crossed) = (ways(0, 1, 3), ways(1, 1, 3), entry(only(4, 5, 4), 3));
+    let (odd, many) = (ways(0, 2, 3), vec![both; 256]);
+    for (version, count, list, expected) in [
+        (1, 1, vec![both], Err(Refusal::Narrow(33))),
+        (2, 1, vec![both], Err(Refusal::Narrow(35))),
+        (2, 2, vec![both, out], Err(Refusal::Narrow(65))),
+        (1, 2, vec![both, out], Err(Refusal::Crossed(1))),
+        (1, 2, vec![ways(0, 0, 3), both], Err(Refusal::Crossed(0))),
+        (1, 3, vec![both, out, crossed], Err(Refusal::Crossed(1))),
+        (1, 3, vec![both, crossed, out], Err(Refusal::Crossed(1))),
+        (2, 3, vec![both, out, crossed], Err(Refusal::Crossed(2))),
+        (2, 2, vec![out, odd], Err(Refusal::Crossed(1))),
+        (1, 2, vec![both, odd], Err(Refusal::Crossed(1))),
+        (0, 0, vec![], Err(Refusal::Version)),
+        (3, 0, vec![], Err(Refusal::Version)),
+        (3, 257, many.clone(), Err(Refusal::Version)),
+        (255, 1, vec![odd], Err(Refusal::Version)),
+        (1, 0, vec![], Err(Refusal::Count)),
+        (2, 0, vec![], Err(Refusal::Count)),
+        (1, 257, many.clone(), Err(Refusal::Count)),
+        (2, 1000, vec![odd; 256], Err(Refusal::Count)),
+        (1, 256, many.clone(), Err(Refusal::Narrow(7173))),
+        (2, 256, many, Err(Refusal::Narrow(7685))),
+    ] {
+        let case = || format!("writing {count} in version {version}: {list:?}");
+        cases.same(model::write(version, count, &list, &mut [0; 2]), expected, case);
+        if let Err(Refusal::Narrow(needed)) = expected {
+            let mut buffer = vec![0; needed];
+            cases.same(model::write(version, count, &list, &mut buffer), Ok(needed), case);
+            let read = Versioned { version, entries: list.clone() };
+            cases.same(model::read(&buffer, 256), Ok(read), case);
+        }
+    }
+}
+
+/// The order of headers, gaps, conflicts and comparisons that are in one direction alone.
+fn one_direction_alone(cases: &mut Cases) {
+    let none = || "an example of Wish 4".to_string();
+    let either = DISCARD | BYPASS;
+    for (list, gap) in [
+        (vec![ways(0, 0, 1)], [0, 0, 0, 0, 0, 1]),
+        (vec![ways(1, 1, 1)], [0, 0, 0, 0, 0, 0]),
+        (vec![ways(0, 0, 1), entry(only(4, 0, 254), 1)], [0, 0, 0, 0, 255, 1]),
+    ] {
+        cases.same(model::gap(&list), Err(Refusal::Gap(gap)), none);
+    }
+    cases.same(model::gap(&[ways(1, 1, 1), ways(0, 0, 1)]), Ok(()), none);
+    // Out with protocol 0 comes before in with protocol 1: the direction is compared last.
+    let (mut zero_in, mut one_out) = (only(4, 0, 0), only(4, 1, 1));
+    (zero_in.high[DIRECTION], one_out.low[DIRECTION]) = (IN, OUT);
+    let list = vec![entry(zero_in, 1), entry(one_out, 1), entry(only(4, 2, 255), 1)];
+    cases.same(model::gap(&list), Err(Refusal::Gap([0, 0, 0, 0, 0, 1])), none);
+
+    // In conflict for one direction; the second list speaks of both.
+    let (first, second) = (vec![ways(1, 1, BYPASS), entry(ALL, either)], vec![entry(ALL, DISCARD)]);
+    let lists = [first.clone(), second.clone()];
+    cases.same(merge_of(&lists), Err(Refusal::Conflict([0, 0, 0, 0, 0, 1])), none);
+    // Apart, and so not in conflict; the pair of the last entries catches nothing.
+    let apart = [first.clone(), vec![ways(0, 0, DISCARD), entry(ALL, either)]];
+    let merged = vec![ways(1, 1, BYPASS), ways(0, 0, DISCARD)];
+    cases.same(merge_of(&apart), Ok(merged), none);
+    let alike = [first.clone(), vec![entry(ALL, either)]];
+    cases.same(merge_of(&alike), Ok(first.clone()), none);
+
+    // A file of version 1 beside one of version 2.
+    let (one, two) = (file_in(1, &second), file(&first));
+    for (length, written) in [(13, 0), (14, 14), (15, 14)] {
+        let mut buffer = vec![0xee; length];
+        cases.same(model::compare_number(&one, &two, &mut buffer), 1, none);
+        let header = header_bytes(&[0, 0, 0, 0, 0, 1]);
+        let expected = [&header[..written], &vec![0xee; length - written]].concat();
+        cases.same(buffer, expected, none);
+    }
+    cases.same(model::compare_number(&one, &file_in(1, &first), &mut []), 1, none);
+    cases.same(model::compare_number(&one, &one, &mut []), 0, none);
+    cases.same(model::compare(&two, &one), Ok(Some([0, 0, 0, 0, 0, 0])), none);
+    cases.same(model::compare(&two, &file(&[entry(ALL, either)])), Ok(None), none);
+}
+
+/// What is merged and installed is of version 2, whatever was filed.
+fn merged_in_version_2(cases: &mut Cases) {
+    let expected =
+        bytes_of(&ONE.replace("001f 01", "0021 02").replace("00ff 0003", "00ff 0001 0003"));
+    let list = vec![ways(0, 1, 3)];
+    for versions in [[1, 1], [1, 2], [2, 1], [2, 2]] {
+        let mut bench = Bench::default();
+        for (party, version) in [4, 7].into_iter().zip(versions) {
+            let case = || format!("filing of version {version}");
+            cases.same(bench.file(party, &file_in(version, &list)), Ok(1), case);
+        }
+        let case = || format!("merging of versions {versions:?}");
+        let mut buffer = vec![0x77; 36];
+        cases.same(bench.merge(&mut buffer[..34]), Err(Refusal::Narrow(35)), case);
+        cases.same(bench.merge(&mut buffer), Ok((1, 35)), case);
+        cases.same(&buffer, &[&expected[..], &[0x77]].concat(), case);
+        cases.same(bench.install(&RISING, &mut buffer), Ok((1, 35)), case);
+        cases.same((buffer[2], &buffer[31..35]), (2, &[0, 1, 0, 1][..]), case);
+    }
+}
+
+fn inbound_and_outbound(cases: &mut Cases) {
+    files_of_both_versions(cases);
+    directions_above_1(cases);
+    writing_in_a_version(cases);
+    one_direction_alone(cases);
+    merged_in_version_2(cases);
 }
 
 // ---------------------------------------------------------------- small header spaces
@@ -299,6 +513,35 @@ struct Apart {
     merged: usize,
     /// Conflicts at another header than the least such combination.
     conflicts: usize,
+}
+
+/// How often the direction mattered.
+#[derive(Default, Debug)]
+struct Ways {
+    /// Lists read from version 1, and from version 2.
+    short: usize,
+    long: usize,
+    /// Gaps, findings and conflicts that are out.
+    gaps: usize,
+    findings: usize,
+    conflicts: usize,
+    /// Boxes with a direction above 1 that would have been found in with its other ranges.
+    searches: usize,
+    /// Lookups with a direction above 1 that another direction would have caught.
+    lookups: usize,
+    /// Merged lists that would be others, were all entries for both directions.
+    merged: usize,
+}
+
+impl Ways {
+    fn counts(&self) -> [usize; 8] {
+        let Ways { short, long, gaps, findings, conflicts, searches, lookups, merged } = *self;
+        [short, long, gaps, findings, conflicts, searches, lookups, merged]
+    }
+}
+
+fn is_out(h: &Header) -> bool {
+    h[DIRECTION] == OUT
 }
 
 /// What the first entry that matches allows, header or not.
@@ -345,22 +588,34 @@ fn small_spaces(cases: &mut Cases, wanted: usize) {
     let (points, all) = (points(), combinations());
     let mut random = Random::new(1);
     let mut answers = [0usize; 4];
-    let mut apart = Apart::default();
+    let (mut apart, mut ways) = (Apart::default(), Ways::default());
     let mut installs = Installs::default();
     while cases.count < wanted {
         let sets = *random.pick(&[Sets::Any, Sets::With(4), Sets::OneOf(6, 12), Sets::OneOf(5, 6)]);
         let mut lists = vec![];
         for _ in 0..random.between(1, 4) {
             let n = random.between(1, 7) as usize;
-            let list = small_list(n, sets, &mut random);
+            let (version, list) = match small_list(n, sets, &mut random) {
+                list if random.one_in(3) => (1, both_ways(&list)),
+                list => (2, list),
+            };
             assert!(is_small(&list));
+            *if version == 1 { &mut ways.short } else { &mut ways.long } += 1;
+            let bytes = file_in(version, &list);
+            let read = Versioned { version, entries: list.clone() };
+            cases.same(model::read(&bytes, 256), Ok(read), || format!("reading of {list:?}"));
             let gap = match least_uncaught(&list, &points) {
                 Some(header) => Err(Refusal::Gap(header)),
                 None => Ok(()),
             };
             cases.same(model::gap(&list), gap, || format!("gap of {list:?}"));
-            search(cases, &list, &points, &all, &mut apart, &mut random);
-            lookup(cases, &list, *random.pick(&all), &points, &mut apart);
+            ways.gaps += matches!(gap, Err(Refusal::Gap(h)) if is_out(&h)) as usize;
+            search(cases, (&bytes, &list), (&points, &all), (&mut apart, &mut ways), &mut random);
+            let mut header = *random.pick(&all);
+            if random.one_in(8) {
+                header[DIRECTION] = *random.pick(&[2, 3, 255]);
+            }
+            lookup(cases, (&bytes, &list), header, &points, (&mut apart, &mut ways));
             let matches_none = |e: &&Entry| !points.iter().any(|h| holds(&e.selector, h));
             apart.headerless += list.iter().filter(matches_none).count();
             if gap.is_ok() {
@@ -371,8 +626,17 @@ fn small_spaces(cases: &mut Cases, wanted: usize) {
         let expected = merged(&lists, &points);
         let clash = least_clash(&lists, &all);
         match &expected {
-            Ok(_) => apart.merged += clash.is_some() as usize,
-            Err(Refusal::Conflict(h)) => apart.conflicts += (clash != Some(*h)) as usize,
+            Ok(list) => {
+                apart.merged += clash.is_some() as usize;
+                if random.one_in(8) {
+                    let both: Vec<List> = lists.iter().map(|list| both_ways(list)).collect();
+                    ways.merged += (merge_of(&both).as_ref() != Ok(list)) as usize;
+                }
+            }
+            Err(Refusal::Conflict(h)) => {
+                apart.conflicts += (clash != Some(*h)) as usize;
+                ways.conflicts += is_out(h) as usize;
+            }
             Err(_) => {}
         }
         answers[match &expected {
@@ -395,6 +659,8 @@ fn small_spaces(cases: &mut Cases, wanted: usize) {
     let Apart { covering, headerless, searches, lookups, merged, conflicts } = apart;
     let counts = [covering, headerless, searches, lookups, merged, conflicts];
     assert!(counts.iter().all(|count| *count > 0), "some case was never met");
+    println!("  where the direction mattered: {ways:?}");
+    assert!(ways.counts().iter().all(|count| *count > 0), "some direction was never met");
     println!("  installs: {installs:?}");
     assert!(installs.counts().iter().all(|count| *count > 0), "some install was never met");
 }
@@ -449,16 +715,16 @@ fn promises(
     cases.same(needless, None, case);
 }
 
+/// A search in a file of a list, over the points; and over all combinations, to see where it matters.
 fn search(
     cases: &mut Cases,
-    list: &List,
-    points: &[Header],
-    all: &[Header],
-    apart: &mut Apart,
+    (file, list): (&[u8], &List),
+    (points, all): (&[Header], &[Header]),
+    (apart, ways): (&mut Apart, &mut Ways),
     random: &mut Random,
 ) {
     // The box's own ends have to lie between the points' cells as well.
-    let within = small_box(&box_near(&small_list(4, Sets::Any, random), random));
+    let mut within = small_box(&box_near(&small_list(4, Sets::Any, random), random));
     let want = match random.below(3) {
         0 => Want::Uncaught,
         1 => Want::CaughtBy(random.below(8) as usize),
@@ -470,26 +736,42 @@ fn search(
         Want::CaughtBy(i) => first(h) == Some(i),
         Want::Differing(set) => matched(list, h) != Some(set),
     };
-    let find = |among: &[Header]| among.iter().filter(wanted).find(|h| holds(&within, h)).copied();
-    let expected = find(points);
-    apart.searches += (find(all) != expected) as usize;
-    cases.same(model::search(&file(list), &within, want), Ok(expected), || {
+    let find = |among: &[Header], within: &Box6| {
+        among.iter().filter(wanted).find(|h| holds(within, h)).copied()
+    };
+    let mut expected = find(points, &within);
+    apart.searches += (find(all, &within) != expected) as usize;
+    ways.findings += expected.is_some_and(|h| is_out(&h)) as usize;
+    if random.one_in(8) {
+        ways.searches += expected.take().is_some() as usize;
+        leave_directions(&mut within, random);
+    }
+    cases.same(model::search(file, &within, want), Ok(expected), || {
         format!("{want:?} in {within:?} of {list:?}")
     });
 }
 
 /// Lookup of a combination in a file, as a part of it and in a table.
-fn lookup(cases: &mut Cases, list: &List, h: Header, points: &[Header], apart: &mut Apart) {
+fn lookup(
+    cases: &mut Cases,
+    (file, list): (&[u8], &List),
+    h: Header,
+    points: &[Header],
+    (apart, ways): (&mut Apart, &mut Ways),
+) {
     let first = list.iter().position(|e| holds(&e.selector, &h));
     let expected = first.filter(|_| points.contains(&h));
     apart.lookups += (first != expected) as usize;
+    let mut turned = h;
+    turned[DIRECTION] = h[DIRECTION].min(OUT);
+    ways.lookups += (turned != h && allowed(list, &turned).is_some()) as usize;
     let case = || format!("lookup of {h:?} in {list:?}");
-    let bytes = file(list);
-    cases.same(model::lookup(&bytes, &h), Ok(expected), case);
+    cases.same(model::lookup(file, &h), Ok(expected), case);
     cases.same(model::lookup_in_table(list, &h), expected, case);
-    cases.same(model::lookup_number(&bytes, &h) as usize, expected.unwrap_or(256), case);
-    let part = expected.map_or((0, 0), |i| (5 + 28 * i, 28));
-    cases.same(model::lookup_part(&bytes, &h), part, case);
+    cases.same(model::lookup_number(file, &h) as usize, expected.unwrap_or(256), case);
+    let size = if file[2] == 1 { 28 } else { 30 };
+    let part = expected.map_or((0, 0), |i| (5 + size * i, size));
+    cases.same(model::lookup_part(file, &h), part, case);
 }
 
 /// What a call answers and leaves in the lent buffer, held against the list that is to be written.
@@ -510,7 +792,8 @@ fn written(
     let counted = expected.as_ref().map(|list| (list.len(), file(list).len()));
     cases.same(answer, counted.map_err(|refusal| *refusal), case);
     let length = answer.map_or(0, |(_, length)| length);
-    if let Ok(list) = expected {
+    if let Ok(entries) = expected {
+        let list = Versioned { version: 2, entries };
         cases.same(model::read(&buffer[..length], 256), Ok(list), case);
     }
     cases.same(buffer[length..].iter().all(|b| *b == lent.fill), true, case);
@@ -521,6 +804,8 @@ fn written(
 fn histories(cases: &mut Cases, wanted: usize) {
     let mut random = Random::new(2);
     let end = cases.count + wanted;
+    // Merged of lists of version 1 alone, of version 2 alone, and of both.
+    let mut merged = [0usize; 3];
     while cases.count < end {
         let script = bench_calls(&mut random);
         let mut bench = Bench::default();
@@ -531,7 +816,7 @@ fn histories(cases: &mut Cases, wanted: usize) {
                 for call in &accepted {
                     match call {
                         Call::File { party: p, file } if *p == party => {
-                            last = model::read(&file.0, 32).ok()
+                            last = model::read(&file.0, 32).ok().map(|list| list.entries)
                         }
                         Call::Withdraw { party: p } if *p == party => last = None,
                         _ => {}
@@ -557,6 +842,10 @@ fn histories(cases: &mut Cases, wanted: usize) {
                 Call::Merge { buffer: lent } => {
                     let mut buffer = vec![lent.fill; lent.length];
                     let answer = bench.merge(&mut buffer);
+                    if answer.is_ok() {
+                        let has = |version| bench.versions().contains(&version) as usize;
+                        merged[has(1) + 2 * has(2) - 1] += 1;
+                    }
                     written(cases, answer, &buffer, lent, merge_of(&lists()), &script);
                 }
                 Call::Install { ranking, buffer: lent } => {
@@ -569,19 +858,38 @@ fn histories(cases: &mut Cases, wanted: usize) {
             }
         }
     }
+    println!("  merged of version 1, of version 2, of both: {merged:?}");
+    assert!(merged.iter().all(|count| *count > 0), "some versions were never merged");
 }
 
-/// Writing, then reading.
+/// Writing, then reading, and writing what was read. Version 1 takes a list for both directions alone.
 fn round_trips(cases: &mut Cases, wanted: usize) {
     let mut random = Random::new(3);
+    let mut refused = 0;
     for _ in 0..wanted {
         let n = random.between(1, 40) as usize;
         let list = shaped_list(n, Sets::Any, &mut random);
-        let mut buffer = vec![0x55; 1400];
-        let length = model::write(&list, &mut buffer).expect("room");
-        cases.same(buffer[..length].to_vec(), file(&list), || "writing".into());
-        cases.same(model::read(&buffer[..length], 256), Ok(list), || "reading".into());
+        let case = || format!("writing of {list:?}");
+        let both = both_ways(&list);
+        for (version, entries) in [(1, &both), (2, &both), (2, &list)] {
+            let mut buffer = vec![0x55; 1400];
+            let count = entries.len();
+            let length = model::write(version, count, entries, &mut buffer).expect("room");
+            cases.same(buffer[..length].to_vec(), file_in(version, entries), case);
+            let read = Versioned { version, entries: entries.clone() };
+            cases.same(model::read(&buffer[..length], 256), Ok(read), case);
+            let mut again = vec![0x55; 1400];
+            cases.same(model::rewrite(&buffer[..length], &mut again), Ok(length), case);
+            cases.same(again, buffer, case);
+        }
+        if let Some(i) = list.iter().zip(&both).position(|(one, other)| one != other) {
+            refused += 1;
+            let answer = model::write(1, list.len(), &list, &mut []);
+            cases.same(answer, Err(Refusal::Crossed(i)), case);
+        }
     }
+    println!("  lists that version 1 has no room for: {refused}");
+    assert!(refused > 0, "every list was for both directions");
 }
 
 /// Calls written in the form of the replay are read as they were, and what ends them is bad.
@@ -608,6 +916,7 @@ fn main() {
     one_action_to_install(&mut cases);
     refusals_of_installing(&mut cases);
     room_to_install(&mut cases);
+    inbound_and_outbound(&mut cases);
     small_spaces(&mut cases, wanted);
     histories(&mut cases, wanted / 12);
     round_trips(&mut cases, wanted / 90);

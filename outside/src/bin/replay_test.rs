@@ -3,7 +3,8 @@
 //! a list can be looked at again by itself, and nothing has to be met.
 
 use outside::calls::call_list;
-use outside::entry::{file, is_header, Entry, Header, ALL};
+use outside::entry::{file, file_in, is_both_ways, is_header, Box6, Entry, Header, ALL};
+use outside::entry::{DIRECTION, HEADER, OUT, RECORD, VERSIONS};
 use outside::generate::RISING;
 use outside::model::{holds, is_crossed, least_header, read, Bench, Refusal, LIST_LIMIT};
 use outside::process::{run, Run};
@@ -23,38 +24,69 @@ const LIMIT: Duration = Duration::from_secs(60);
 /// Each call's number and name, and the kinds of answers that every run has to meet.
 const CALLS: [(u8, &str, &str); 14] = [
     (0, "open", "ok"),
-    (1, "file", "ok, no 1, no 2, no 3, no 4, no 5, no 6"),
+    (1, "file", "ok, of version 1, of version 2, no 1, no 2, no 3, no 4, no 5, no 5 out, no 6"),
     (2, "withdraw", "ok, no 6, no 7"),
     (
         3,
         "merge",
-        "ok exact, ok longer, ok 256 entries, no 8, no 9, no 10, no 11 one short, no 11 short",
+        "ok exact, ok longer, ok 256 entries, of version 1, of version 2, of both versions, no 8, \
+         no 9, no 10, no 10 out, no 11 one short, no 11 short",
     ),
-    (4, "rewrite", "ok exact, ok longer, no 1, no 2, no 3, no 4, no 11 one short, no 11 short"),
-    (5, "write", "ok exact, ok longer, no 3, no 4, no 11 one short, no 11 short"),
-    (6, "lookup", "ok entry, ok uncaught, ok no header, no 1, no 2, no 3, no 4"),
-    (7, "lookup of the part", "ok 0, ok 28, ok no header"),
-    (8, "lookup in a table", "ok entry, ok entry past 255, ok uncaught, ok no header"),
+    (
+        4,
+        "rewrite",
+        "ok exact, ok longer, of version 1, of version 2, no 1, no 2, no 3, no 4, \
+         no 11 one short, no 11 short",
+    ),
+    (
+        5,
+        "write",
+        "ok exact, ok longer, of version 1, of version 2, no 2, no 2 before 3, no 2 before 4, no 3, \
+         no 4, no 4 for its directions, no 4 above 1, no 11 one short, no 11 short",
+    ),
+    (
+        6,
+        "lookup",
+        "ok entry, ok uncaught, ok no header, ok no direction, of version 1, of version 2, no 1, \
+         no 2, no 3, no 4",
+    ),
+    (7, "lookup of the part", "ok 0, ok 28, ok 30, ok no header, ok no direction"),
+    (
+        8,
+        "lookup in a table",
+        "ok entry, ok entry past 255, ok uncaught, ok no header, ok no direction, ok past one above 1",
+    ),
     (
         9,
         "compare",
-        "ok refines, ok header, no 1 1, no 1 2, no 1 3, no 1 4, no 1 5, no 2 1, no 2 2, no 2 3, \
-         no 2 4, no 2 5",
+        "ok refines, ok header, ok header out, of version 1, of version 2, of both versions, \
+         no 1 1, no 1 2, no 1 3, no 1 4, no 1 5, no 1 5 out, no 2 1, no 2 2, no 2 3, no 2 4, no 2 5",
     ),
-    (10, "search", "ok none, ok header, ok no header, no 1, no 2, no 3, no 4"),
+    (
+        10,
+        "search",
+        "ok none, ok header, ok header out, ok no header, ok none above 1, of version 1, \
+         of version 2, no 1, no 2, no 3, no 4",
+    ),
     (
         11,
         "install",
-        "ok exact, ok longer, ok 256 entries, ok too short for merging, no 8, no 9, no 10, \
-         no 11 one short, no 11 short, no 12 empty, no 12 too few, no 12 too many, no 12 above 15, \
+        "ok exact, ok longer, ok 256 entries, ok too short for merging, of version 1, of version 2, \
+         of both versions, no 8, no 9, no 10, no 10 out, no 11 one short, no 11 short, no 12 empty, no 12 too few, no 12 too many, no 12 above 15, \
          no 12 twice, no 12 alone, no 12 before 8, no 12 before 9, no 12 before 10, no 12 before 11",
     ),
-    (19, "lookup in C", "ok entry, ok 256, ok no header, ok 257, ok 258, ok 259, ok 260"),
+    (
+        19,
+        "lookup in C",
+        "ok entry, ok 256, ok no header, ok no direction, of version 1, of version 2, ok 257, \
+         ok 258, ok 259, ok 260",
+    ),
     (
         20,
         "compare in C",
-        "ok 0, ok 1 short, ok 1 one short, ok 1 exact, ok 1 longer, ok 257, ok 258, ok 259, \
-         ok 260, ok 261, ok 513, ok 514, ok 515, ok 516, ok 517",
+        "ok 0, ok 1 short, ok 1 one short, ok 1 exact, ok 1 longer, of version 1, of version 2, \
+         of both versions, ok 257, ok 258, ok 259, ok 260, ok 261, ok 513, ok 514, ok 515, ok 516, \
+         ok 517",
     ),
 ];
 
@@ -68,24 +100,43 @@ fn fit(lent: usize, needed: usize) -> &'static str {
     }
 }
 
-/// Whether a good file's lookup is of no header, though an entry's ranges hold its numbers; or a search
-/// is in a box that holds combinations and no header.
-fn is_beside_headers(call: &Call) -> bool {
-    let held =
-        |list: &[Entry], h: &Header| !is_header(h) && list.iter().any(|e| holds(&e.selector, h));
+/// A header with direction 0 or 1 in place of its own.
+fn turned(h: &Header) -> Header {
+    let mut h = *h;
+    h[DIRECTION] = h[DIRECTION].min(OUT);
+    h
+}
+
+/// Whether a box is crossed only because an end of its directions is above 1.
+fn is_above_1(b: &Box6) -> bool {
+    (0..b.low.len()).all(|f| b.low[f] <= b.high[f]) && b.high[DIRECTION] > OUT
+}
+
+/// Why what is looked up in some entries is no header, though an entry's other ranges hold it.
+fn no_header(list: &[Entry], h: &Header) -> Option<&'static str> {
+    let is_held = |h: &Header| list.iter().any(|e| holds(&e.selector, h));
+    match h[DIRECTION] > OUT {
+        true => is_held(&turned(h)).then_some("ok no direction"),
+        false => (!is_header(h) && is_held(h)).then_some("ok no header"),
+    }
+}
+
+/// Why a good file's lookup is of no header, or why a search's box holds none.
+fn beside_headers(call: &Call) -> Option<&'static str> {
     match call {
         Call::Lookup { file, header }
         | Call::LookupPart { file, header }
         | Call::LookupInC { file, header } => {
-            read(&file.0, LIST_LIMIT).is_ok_and(|list| held(&list, header))
+            no_header(&read(&file.0, LIST_LIMIT).ok()?.entries, header)
         }
-        Call::LookupInTable { table, header } => held(table, header),
+        Call::LookupInTable { table, header } => no_header(table, header),
         Call::Search { file, within, .. } => {
-            read(&file.0, LIST_LIMIT).is_ok()
-                && !is_crossed(within)
-                && least_header(within).is_none()
+            read(&file.0, LIST_LIMIT).ok()?;
+            let is_empty = !is_crossed(within) && least_header(within).is_none();
+            let above = is_above_1(within).then_some("ok none above 1");
+            above.or(is_empty.then_some("ok no header"))
         }
-        _ => false,
+        _ => None,
     }
 }
 
@@ -108,7 +159,7 @@ fn kind(call: u8, line: &str) -> String {
         (9, _, []) => "refines".to_string(),
         (10, _, []) => "none".to_string(),
         (9 | 10, _, _) => "header".to_string(),
-        (20, _, [1]) => format!("1 {}", fit(lent, 13)),
+        (20, _, [1]) => format!("1 {}", fit(lent, HEADER)),
         (7 | 19 | 20, _, [number]) => number.to_string(),
         _ => String::new(),
     };
@@ -145,13 +196,85 @@ fn install_kinds(ranking: &[u8], buffer: &Buffer, line: &str, bench: &Bench) -> 
     }
 }
 
-/// The kinds of answer that a call's line is, on a bench; mostly one.
+/// Whether some lists are of one version, or of both.
+fn of_versions(versions: &[u8]) -> String {
+    match VERSIONS.map(|version| versions.contains(&version)) {
+        [true, true] => "of both versions".to_string(),
+        [one, _] => format!("of version {}", if one { 1 } else { 2 }),
+    }
+}
+
+/// The versions of the lists that an accepted call is about.
+fn version_kind(call: &Call, kind: &str, bench: &Bench) -> Option<String> {
+    if !kind.starts_with("ok") {
+        return None;
+    }
+    let read = |file: &Bytes| read(&file.0, LIST_LIMIT).ok().map(|list| list.version);
+    let versions = match call {
+        Call::File { file, .. }
+        | Call::Rewrite { file, .. }
+        | Call::Lookup { file, .. }
+        | Call::LookupInC { file, .. }
+        | Call::Search { file, .. } => vec![read(file)?],
+        Call::Compare { first, second } | Call::CompareInC { first, second, .. } => {
+            vec![read(first)?, read(second)?]
+        }
+        Call::Write { version, .. } => vec![*version],
+        Call::Merge { .. } | Call::Install { .. } => bench.versions(),
+        _ => return None,
+    };
+    Some(of_versions(&versions))
+}
+
+/// What an answer has to do with directions: a header that is out, a written list that is refused for
+/// its directions, a table's entry that would catch but for a direction above 1.
+fn direction_kind(call: &Call, kind: &str, line: &str) -> Option<String> {
+    let said = line.split(" = ").next().unwrap_or_default().trim_end();
+    match (call, kind) {
+        (Call::File { .. }, "no 5")
+        | (Call::Merge { .. } | Call::Install { .. }, "no 10")
+        | (Call::Compare { .. }, "ok header" | "no 1 5" | "no 2 5")
+        | (Call::Search { .. }, "ok header") => said.ends_with(" 1").then(|| format!("{kind} out")),
+        (Call::Write { count, list, .. }, "no 2") => {
+            let is_counted = (1..=LIST_LIMIT).contains(count);
+            let crossed = list.iter().any(|e| is_crossed(&e.selector));
+            match (is_counted, crossed) {
+                (false, _) => Some("no 2 before 3".to_string()),
+                (true, true) => Some("no 2 before 4".to_string()),
+                _ => None,
+            }
+        }
+        (Call::Write { version, list, .. }, "no 4") => {
+            let entry: usize = said.rsplit(' ').next()?.parse().ok()?;
+            let e = &list[entry];
+            let lost = *version == 1 && !is_both_ways(e) && !is_crossed(&e.selector);
+            let above = is_above_1(&e.selector).then(|| "no 4 above 1".to_string());
+            above.or(lost.then(|| "no 4 for its directions".to_string()))
+        }
+        (Call::LookupInTable { table, header }, "ok entry") => {
+            let entry: usize = said.rsplit(' ').next()?.parse().ok()?;
+            let held = |b: &Box6| {
+                (0..b.low.len()).all(|f| b.low[f] <= header[f] && header[f] <= b.high[f])
+            };
+            let past = table[..entry].iter().any(|e| is_above_1(&e.selector) && held(&e.selector));
+            past.then(|| "ok past one above 1".to_string())
+        }
+        _ => None,
+    }
+}
+
+/// The kinds of answer that a call's line is, on a bench.
 fn kinds(call: &Call, line: &str, bench: &Bench) -> Vec<String> {
-    match call {
-        _ if is_beside_headers(call) => vec!["ok no header".to_string()],
+    if let Some(kind) = beside_headers(call) {
+        return vec![kind.to_string()];
+    }
+    let mut kinds = match call {
         Call::Install { ranking, buffer } => install_kinds(&ranking.0, buffer, line, bench),
         _ => vec![kind(call.number(), line)],
-    }
+    };
+    let more = [direction_kind(call, &kinds[0], line), version_kind(call, &kinds[0], bench)];
+    kinds.extend(more.into_iter().flatten());
+    kinds
 }
 
 // ---------------------------------------------------------------- holding program against model
@@ -263,8 +386,8 @@ impl Test {
 fn one_of_each() -> Vec<Call> {
     let list = vec![Entry { selector: ALL, actions: 3 }];
     let bytes = Bytes(file(&list));
-    let buffer = Buffer { length: 35, fill: 0xa5 };
-    let header = [1, 2, 3, 4, 6];
+    let buffer = Buffer { length: 5 + RECORD + 2, fill: 0xa5 };
+    let header = [1, 2, 3, 4, 6, OUT];
     vec![
         Call::Open,
         Call::File { party: 1, file: bytes.clone() },
@@ -272,7 +395,8 @@ fn one_of_each() -> Vec<Call> {
         Call::Install { ranking: Bytes(RISING.to_vec()), buffer },
         Call::Withdraw { party: 1 },
         Call::Rewrite { file: bytes.clone(), buffer },
-        Call::Write { count: 1, list: list.clone(), buffer },
+        Call::Rewrite { file: Bytes(file_in(1, &list)), buffer },
+        Call::Write { version: 2, count: 1, list: list.clone(), buffer },
         Call::Lookup { file: bytes.clone(), header },
         Call::LookupPart { file: bytes.clone(), header },
         Call::LookupInTable { table: list, header },
@@ -299,15 +423,21 @@ fn calls_at_limits() -> Vec<Call> {
     let list = [Entry { selector: ALL, actions: 3 }];
     let bytes = Bytes(file(&list));
     let mut calls: Vec<Call> = (0..=255).map(search).collect();
+    let buffer = Buffer { length: 5 + RECORD, fill: 7 };
+    let write = |version| Call::Write { version, count: 1, list: list.to_vec(), buffer };
+    calls.extend((0..=255).map(write));
+    let looked_up =
+        |direction| Call::Lookup { file: bytes.clone(), header: [0, 0, 0, 0, 0, direction] };
+    calls.extend((0..=255).map(looked_up));
     for n in [LONGEST_TABLE, LONGEST_TABLE + 1] {
-        calls.push(Call::LookupInTable { table: list.repeat(n), header: [0; 5] });
+        calls.push(Call::LookupInTable { table: list.repeat(n), header: [0; 6] });
     }
     for length in [LONGEST_BUFFER, LONGEST_BUFFER + 1, 0xffff_ffff] {
         let buffer = Buffer { length, fill: 7 };
         calls.push(Call::Merge { buffer });
         calls.push(Call::Install { ranking: Bytes(RISING.to_vec()), buffer });
         calls.push(Call::Rewrite { file: bytes.clone(), buffer });
-        calls.push(Call::Write { count: 1, list: list.to_vec(), buffer });
+        calls.push(Call::Write { version: 1, count: 1, list: list.to_vec(), buffer });
         calls.push(Call::CompareInC { first: bytes.clone(), second: bytes.clone(), buffer });
     }
     calls
@@ -337,7 +467,7 @@ fn limits(test: &mut Test) {
     }
     // The last call ends with the longest input, one byte before, one after.
     for length in [LONGEST_INPUT - 1, LONGEST_INPUT, LONGEST_INPUT + 1] {
-        let looked_up = |n| opened(&[Call::Lookup { file: Bytes(vec![1; n]), header: [0; 5] }]);
+        let looked_up = |n| opened(&[Call::Lookup { file: Bytes(vec![1; n]), header: [0; 6] }]);
         test.check("a long file", &looked_up(length - looked_up(0).len()));
     }
     // A file's length is right but for 65,536 bytes more.
@@ -345,7 +475,7 @@ fn limits(test: &mut Test) {
     longer.resize(longer.len() + 65_536, 0);
     test.check(
         "a file and 64 KB",
-        &opened(&[Call::Lookup { file: Bytes(longer), header: [0; 5] }]),
+        &opened(&[Call::Lookup { file: Bytes(longer), header: [0; 6] }]),
     );
     // So is a ranking's.
     let ranking = Bytes([&RISING[..], &[0; 65_536]].concat());

@@ -8,7 +8,7 @@
 //! linked.
 
 use outside::deep::{self, families, Family, Pair};
-use outside::entry::{file, Entry, List, FIELDS, LAST_HEADER, TOP};
+use outside::entry::{file, Entry, List, FIELDS, HEADER, LAST_HEADER, TOP};
 use outside::gateway;
 use outside::generate::RISING;
 use outside::page::count;
@@ -23,7 +23,7 @@ use std::time::{Duration, Instant};
 const LIMIT: usize = 64 << 10;
 
 fn compare(pair: &Pair) -> u32 {
-    gateway::compare(&pair.0, &pair.1, &mut [0; 13])
+    gateway::compare(&pair.0, &pair.1, &mut [0; HEADER])
 }
 
 /// Bytes that a comparison uses.

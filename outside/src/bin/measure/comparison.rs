@@ -2,7 +2,7 @@
 
 use outside::baseline;
 use outside::cells;
-use outside::entry::{file, List};
+use outside::entry::{both_ways, file, file_in, List, HEADER};
 use outside::generate::{family, realistic_list, related_list, Closing, Sets, Shape};
 use outside::page::{count, Table};
 use outside::product::Product;
@@ -20,16 +20,25 @@ const JOB: &str = "comparison";
 static RATIO: Target =
     Target { words: "comparison: at most 1.3 times Rust over the bytes", most: 1.3 };
 
-fn pairs(random: &mut Random) -> Vec<(String, List, List)> {
+/// Two files, with a name.
+fn pairs(random: &mut Random) -> Vec<(String, Vec<u8>, Vec<u8>)> {
     let mut pairs = vec![];
     for n in [32, 64, 128, 256] {
         let list = realistic_list(n, Sets::With(4), random);
         let mut wider = list.clone();
         wider.iter_mut().for_each(|e| e.actions |= 0x100);
-        pairs.push((format!("realistic {n}, the second wider"), list.clone(), wider));
+        pairs.push((format!("realistic {n}, the second wider"), file(&list), file(&wider)));
         let other = related_list(&list, random);
-        pairs.push((format!("realistic {n}, the second changed"), list, other));
+        pairs.push((format!("realistic {n}, the second changed"), file(&list), file(&other)));
     }
+    // As version 1 has them, which older archives read too.
+    let list = both_ways(&realistic_list(256, Sets::With(4), random));
+    let mut wider = list.clone();
+    wider.iter_mut().for_each(|e| e.actions |= 0x100);
+    let short = file_in(1, &list);
+    let name = "realistic 256 of version 1, the second wider";
+    pairs.push((name.to_string(), short.clone(), file_in(1, &wider)));
+    pairs.push((format!("{name} and of version 2"), short, file(&wider)));
     for (shape, closing) in [
         (Shape::Partition, Closing::Halves),
         (Shape::Staircase, Closing::Halves),
@@ -44,9 +53,9 @@ fn pairs(random: &mut Random) -> Vec<(String, List, List)> {
                 e.actions |= 0x10;
             }
         }
-        pairs.push((format!("{name}, the second wider"), first.clone(), wider));
-        let second = dead_list(random);
-        pairs.push((format!("{name}, the second mostly dead"), all_actions(first), second));
+        pairs.push((format!("{name}, the second wider"), file(&first), file(&wider)));
+        let (all, second) = (file(&all_actions(first)), file(&dead_list(random)));
+        pairs.push((format!("{name}, the second mostly dead"), all, second));
     }
     pairs
 }
@@ -71,7 +80,7 @@ fn product_compare<'a>(
     a: &'a [u8],
     b: &'a [u8],
 ) -> Option<Tried<impl FnMut() -> u64 + 'a>> {
-    let (mut lent, mut header) = ([0u8; 13], [0u8; 13]);
+    let (mut lent, mut header) = ([0u8; HEADER], [0u8; HEADER]);
     let answer = baseline::compare(a, b, &mut header);
     product.compare.map(|compare| {
         let is_right = compare(a, b, &mut lent) == answer && lent == header;
@@ -87,19 +96,20 @@ pub fn comparisons(page: &mut Page, product: &Product) {
     );
     let mut table = Table::new(&head(&["files", "answer", "boxes"]));
     for (name, first, second) in pairs(&mut Random::new(200)) {
-        let (a, b) = (&file(&first)[..], &file(&second)[..]);
-        let answer = baseline::compare(a, b, &mut [0; 13]);
+        let (a, b) = (&first[..], &second[..]);
+        let answer = baseline::compare(a, b, &mut [0; HEADER]);
         let mut boxes = 0;
-        gap(&Packed { lists: [&a[5..], &[]] }, &mut boxes);
-        gap(&Packed { lists: [&b[5..], &[]] }, &mut boxes);
-        unrefined(&Packed { lists: [&a[5..], &b[5..]] }, &mut boxes);
+        let (p, q) = (&good_records(a)[..], &good_records(b)[..]);
+        gap(&Packed { lists: [p, &[]] }, &mut boxes);
+        gap(&Packed { lists: [q, &[]] }, &mut boxes);
+        unrefined(&Packed { lists: [p, q] }, &mut boxes);
         let mut ours = product_compare(product, a, b).map(Tried::right);
         let times = Times::of(
             ours.as_mut().map(|job| job as Job),
-            &mut || baseline::compare(a, b, &mut [0; 13]) as u64,
-            &mut || baseline::compare_decoded(a, b, &mut [0; 13]) as u64,
+            &mut || baseline::compare(a, b, &mut [0; HEADER]) as u64,
+            &mut || baseline::compare_decoded(a, b, &mut [0; HEADER]) as u64,
             &mut || {
-                let (p, q) = (decode(good_records(a)), decode(good_records(b)));
+                let (p, q) = (decode(&good_records(a)), decode(&good_records(b)));
                 let covering = cells::gap(&p, STATES).is_ok() && cells::gap(&q, STATES).is_ok();
                 covering && cells::unrefined(&p, &q, STATES).is_ok()
             },
@@ -116,8 +126,8 @@ pub fn comparisons(page: &mut Page, product: &Product) {
 
 /// The rows above, of the product alone.
 pub fn rows(product: &Product) -> Vec<Row> {
-    let row = |(name, first, second): (String, List, List)| {
-        let job = product_compare(product, kept(file(&first)), kept(file(&second)));
+    let row = |(name, first, second): (String, Vec<u8>, Vec<u8>)| {
+        let job = product_compare(product, kept(first), kept(second));
         job.map(|job| Row::new(JOB, name, 1, job))
     };
     pairs(&mut Random::new(200)).into_iter().filter_map(row).collect()
@@ -133,8 +143,8 @@ pub fn growth(growth: &mut Growth, product: &Product) {
     });
     let mut jobs = vec![];
     for (a, b) in &files {
-        let ours = product.compare.map(|compare| move || compare(a, b, &mut [0; 13]) as u64);
-        jobs.push((ours, move || baseline::compare(a, b, &mut [0; 13]) as u64));
+        let ours = product.compare.map(|compare| move || compare(a, b, &mut [0; HEADER]) as u64);
+        jobs.push((ours, move || baseline::compare(a, b, &mut [0; HEADER]) as u64));
     }
     let mut rows: Vec<(usize, Option<Job>, Job)> = vec![];
     for (n, (ours, rust)) in sizes.iter().zip(&mut jobs) {

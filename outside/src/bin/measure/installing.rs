@@ -4,6 +4,7 @@ use outside::baseline;
 use outside::cells;
 use outside::generate::RISING;
 use outside::merge::Form;
+use outside::model::LONGEST_FILE;
 use outside::page::{count, maybe_time, ratio, Table};
 use outside::product::Product;
 
@@ -32,7 +33,7 @@ fn with_merging<T>(mut cells: Vec<T>, merging: [T; 2]) -> Vec<T> {
 
 /// The Rust version over the bytes: its answer, what it writes and its boxes.
 fn install(input: &[u8]) -> (u32, Vec<u8>, u64) {
-    let (mut buffer, mut boxes) = (vec![0; 7173], 0);
+    let (mut buffer, mut boxes) = (vec![0; LONGEST_FILE], 0);
     let answer = baseline::install_input(input, &RISING, &mut buffer, Form::Packed, &mut boxes);
     (answer, buffer, boxes)
 }
@@ -43,7 +44,7 @@ fn product_install<'a>(
     input: &'a [u8],
 ) -> Option<Tried<impl FnMut() -> u64 + 'a>> {
     let (answer, expected, _) = install(input);
-    let mut buffer = vec![0; 7173];
+    let mut buffer = vec![0; LONGEST_FILE];
     product.install.map(|install| {
         let is_right = install(input, &RISING, &mut buffer) == answer && buffer == expected;
         Tried::new(is_right, move || install(input, &RISING, &mut buffer) as u64)
@@ -55,7 +56,7 @@ fn install_times(product: &Product, input: &[u8]) -> (Option<f64>, Times) {
     let mut ours = product_install(product, input).map(Tried::right);
     // Of no use beside an install that is not there.
     let mut merging = ours.as_ref().and(product_merge(product, input)).map(Tried::right);
-    let (mut one, mut other) = (vec![0; 7173], vec![0; 7173]);
+    let (mut one, mut other) = (vec![0; LONGEST_FILE], vec![0; LONGEST_FILE]);
     let rust = |form, buffer: &mut [u8]| {
         baseline::install_input(input, &RISING, buffer, form, &mut 0) as u64
     };

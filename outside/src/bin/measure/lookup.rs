@@ -1,7 +1,7 @@
 //! Lookup: the entry's number and the record's part in a file, and in a table of decoded entries.
 
 use outside::baseline::{lookup, lookup_unpacked, unpack, Unpacked};
-use outside::entry::{file, is_header, Header, List};
+use outside::entry::{both_ways, file, file_in, is_header, Header, List};
 use outside::generate::{header_near, realistic_list, Sets};
 use outside::model::catching;
 use outside::page::{maybe_time, ratio, Table};
@@ -70,34 +70,36 @@ struct Inputs<'a> {
     headers: &'a [Header],
 }
 
-type Lookup<'a> = Box<dyn FnMut() -> u64 + 'a>;
+type Lookup<'a> = Tried<Box<dyn FnMut() -> u64 + 'a>>;
 
-/// The product's lookups of all headers: the number, the part and in the table. Their answers are the
-/// expected ones.
+/// The product's lookups of all headers: the number, the part and in the table. Their answers are held
+/// against the expected ones.
 fn product_lookups<'a>(product: &Product, inputs: Inputs<'a>) -> [Option<Lookup<'a>>; 3] {
     let Inputs { bytes, entries, headers } = inputs;
-    let same = |ours: &dyn Fn(&Header) -> u32| {
-        headers.iter().for_each(|h| assert_eq!(ours(h), lookup(bytes, h)));
-    };
+    let is_same =
+        |ours: &dyn Fn(&Header) -> u32| headers.iter().all(|h| ours(h) == lookup(bytes, h));
+    // Every header is caught.
+    let size = (bytes.len() - 5) / entries.len();
     let number = product.lookup.map(|number| -> Lookup {
-        same(&|h| number(bytes, h));
-        Box::new(move || sum(headers, &|h| number(bytes, h)))
+        let is_right = is_same(&|h| number(bytes, h));
+        Tried::new(is_right, Box::new(move || sum(headers, &|h| number(bytes, h))))
     });
     let part = product.part.map(|part| -> Lookup {
-        assert!(headers.iter().all(|h| part(bytes, h) == 28));
-        Box::new(move || sum(headers, &|h| part(bytes, h)))
+        let is_right = headers.iter().all(|h| part(bytes, h) as usize == size);
+        Tried::new(is_right, Box::new(move || sum(headers, &|h| part(bytes, h))))
     });
     let table = product.table.map(|table| -> Lookup {
-        same(&|h| table(entries, h));
-        Box::new(move || sum(headers, &|h| table(entries, h)))
+        let is_right = is_same(&|h| table(entries, h));
+        Tried::new(is_right, Box::new(move || sum(headers, &|h| table(entries, h))))
     });
     [number, part, table]
 }
 
-fn lookup_times(product: &Product, list: &List, headers: &[Header]) -> Lookups {
-    let (bytes, entries) = (&file(list)[..], &unpack(list)[..]);
+fn lookup_times(product: &Product, bytes: &[u8], list: &List, headers: &[Header]) -> Lookups {
+    let entries = &unpack(list)[..];
     let [mut number, mut part, mut table] =
-        product_lookups(product, Inputs { bytes, entries, headers });
+        product_lookups(product, Inputs { bytes, entries, headers })
+            .map(|job| job.map(Tried::right));
     for h in headers {
         assert_eq!(lookup_unpacked(entries, h), lookup(bytes, h));
     }
@@ -179,15 +181,25 @@ fn one_kind(page: &mut Page, kind: &Beside, rows: &[(String, String, Lookups)]) 
     page.say(&table.text());
 }
 
-/// Lists and headers to be looked up in them, with names.
-fn lists() -> Vec<(String, List, Vec<Header>)> {
+/// A list, its file, and headers to be looked up in it, with a name.
+type Looked = (String, List, Vec<u8>, Vec<Header>);
+
+/// Files of version 2; and the longest ones as version 1 has them, which older archives read too.
+fn lists() -> Vec<Looked> {
     let mut rows = vec![];
     for n in SIZES {
         for (last, word) in [(false, "mixed"), (true, "caught last")] {
             let (list, mut random) = list_of(n);
             let headers = headers_for(&list, last, &mut random);
-            rows.push((format!("{n} entries, {word}"), list, headers));
+            rows.push((format!("{n} entries, {word}"), list.clone(), file(&list), headers));
         }
+    }
+    for (last, word) in [(false, "mixed"), (true, "caught last")] {
+        let (list, mut random) = list_of(256);
+        let list = both_ways(&list);
+        let headers = headers_for(&list, last, &mut random);
+        let bytes = file_in(1, &list);
+        rows.push((format!("256 entries of version 1, {word}"), list, bytes, headers));
     }
     rows
 }
@@ -205,9 +217,9 @@ pub fn lookups(page: &mut Page, product: &Product) {
          machine code took three times as long in one program as in another.\n",
     );
     let mut rows = vec![];
-    for (name, list, headers) in lists() {
+    for (name, list, bytes, headers) in lists() {
         let entry = format!("{:.0}", depth(&list, &headers));
-        rows.push((name, entry, lookup_times(product, &list, &headers)));
+        rows.push((name, entry, lookup_times(product, &bytes, &list, &headers)));
     }
     for kind in &KINDS {
         one_kind(page, kind, &rows);
@@ -217,13 +229,12 @@ pub fn lookups(page: &mut Page, product: &Product) {
 /// The rows above, of the product alone.
 pub fn rows(product: &Product) -> Vec<Row> {
     let mut rows = vec![];
-    for (name, list, headers) in lists() {
-        let (bytes, entries) = (kept(file(&list)), kept(unpack(&list)));
+    for (name, list, bytes, headers) in lists() {
+        let (bytes, entries) = (kept(bytes), kept(unpack(&list)));
         let inputs = Inputs { bytes, entries, headers: kept(headers) };
         for (kind, job) in KINDS.iter().zip(product_lookups(product, inputs)) {
             let each = inputs.headers.len();
-            let row = |job| Row::new(kind.job, name.clone(), each, Tried::new(true, job));
-            rows.extend(job.map(row));
+            rows.extend(job.map(|job| Row::new(kind.job, name.clone(), each, job)));
         }
     }
     rows

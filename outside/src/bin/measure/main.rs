@@ -38,7 +38,8 @@ fn introduction() -> String {
         "# Measurements\n\n\
          Written anew by `make measure`. Machine: {}. Times are processor time of one thread, the \
          least of several batches, the versions of a job in turn. Inputs come from the tests' \
-         generator (outside/src/generate.rs) with fixed seeds.\n\n\
+         generator (outside/src/generate.rs) with fixed seeds. Files are of version 2 where a row names \
+         no other; what is filed is of both versions.\n\n\
          - **product**: the proved code, called over its C interface.\n\
          - **Rust, bytes**: the same algorithm in Rust over the same bytes.\n\
          - **Rust, decoded**: the fastest version that we know, over decoded structs with a list \

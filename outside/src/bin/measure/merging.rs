@@ -5,6 +5,7 @@ use outside::cells;
 use outside::entry::{file, Entry, ALL};
 use outside::generate::{family, realistic_filings, related_filings, Closing, Shape};
 use outside::merge::Form;
+use outside::model::LONGEST_FILE;
 use outside::page::{count, Table};
 use outside::product::Product;
 use outside::random::Random;
@@ -33,7 +34,7 @@ pub fn product_merge<'a>(
     product: &Product,
     input: &'a [u8],
 ) -> Option<Tried<impl FnMut() -> u64 + 'a>> {
-    let (mut buffer, mut expected) = (vec![0; 7173], vec![0; 7173]);
+    let (mut buffer, mut expected) = (vec![0; LONGEST_FILE], vec![0; LONGEST_FILE]);
     let answer = baseline::merge_input(input, &mut expected, Form::Packed, &mut 0);
     product.merge.map(|merge| {
         let is_right = merge(input, &mut buffer) == answer && buffer == expected;
@@ -44,7 +45,7 @@ pub fn product_merge<'a>(
 fn merge_times(product: &Product, input: &[u8]) -> (u32, u64, Times) {
     let (answer, boxes) = merge_boxes(input);
     let mut ours = product_merge(product, input).map(Tried::right);
-    let (mut one, mut other) = (vec![0; 7173], vec![0; 7173]);
+    let (mut one, mut other) = (vec![0; LONGEST_FILE], vec![0; LONGEST_FILE]);
     let times = Times::of(
         ours.as_mut().map(|job| job as Job),
         &mut || baseline::merge_input(input, &mut one, Form::Packed, &mut 0) as u64,
@@ -67,7 +68,7 @@ pub fn answer_word(answer: u32) -> String {
 /// The Rust version's answer, and its boxes.
 pub fn merge_boxes(input: &[u8]) -> (u32, u64) {
     let mut boxes = 0;
-    let answer = baseline::merge_input(input, &mut [0; 7173], Form::Packed, &mut boxes);
+    let answer = baseline::merge_input(input, &mut [0; LONGEST_FILE], Form::Packed, &mut boxes);
     (answer, boxes)
 }
 
@@ -158,7 +159,7 @@ pub fn growth(growth: &mut Growth, product: &Product) {
     let mut jobs = vec![];
     for input in &inputs {
         let ours = product_merge(product, input).map(Tried::right);
-        let mut buffer = vec![0; 7173];
+        let mut buffer = vec![0; LONGEST_FILE];
         jobs.push((ours, move || {
             baseline::merge_input(input, &mut buffer, Form::Packed, &mut 0) as u64
         }));

@@ -2,13 +2,14 @@
 
 use outside::baseline;
 use outside::cells;
-use outside::entry::{file, header_bytes, Header, List, ALL};
+use outside::entry::{file, header_bytes, Header, List, ALL, HEADER};
 use outside::generate::{family, Closing, Shape, CLOSINGS, SHAPES};
 use outside::model::Want;
 use outside::page::{count, time, Table};
 use outside::product::{search_of, Product};
 use outside::random::Random;
 use outside::search::{decode, gap, Decoded, Lists, Packed};
+use std::borrow::Cow;
 
 use crate::findings::{Page, Target};
 use crate::growth::Growth;
@@ -24,7 +25,7 @@ static TIME: Target = Target { words: "search at 256 entries: at most 25 ms", mo
 static GROWTH: Target = Target { words: "search: boxes grow below n^2", most: 2.0 };
 static REALISTIC: Target = Target { words: "search of realistic lists: under 1 ms", most: 1.0 };
 
-pub fn good_records(bytes: &[u8]) -> &[u8] {
+pub fn good_records(bytes: &[u8]) -> Cow<'_, [u8]> {
     baseline::records(bytes, 256).expect("a good file")
 }
 
@@ -41,7 +42,7 @@ fn product_search<'a>(
     expected: Option<Header>,
 ) -> Option<Tried<impl FnMut() -> u64 + 'a>> {
     let arguments = search_of(&ALL, want);
-    let mut header = [0u8; 13];
+    let mut header = [0u8; HEADER];
     product.search.map(|search| {
         let answer = search(bytes, &arguments, &mut header);
         let is_right = answer == expected.is_some() as u32
@@ -52,7 +53,7 @@ fn product_search<'a>(
 
 /// The product's search for a gap.
 fn product_gap<'a>(product: &Product, bytes: &'a [u8]) -> Option<Tried<impl FnMut() -> u64 + 'a>> {
-    let expected = rust_gap(&Packed { lists: [good_records(bytes), &[]] });
+    let expected = rust_gap(&Packed { lists: [&good_records(bytes), &[]] });
     product_search(product, bytes, Want::Uncaught, expected)
 }
 
@@ -62,7 +63,7 @@ fn rust_gap(lists: &impl Lists) -> Option<Header> {
 }
 
 fn packed_gap(bytes: &[u8]) -> u64 {
-    token(rust_gap(&Packed { lists: [good_records(bytes), &[]] }))
+    token(rust_gap(&Packed { lists: [&good_records(bytes), &[]] }))
 }
 
 fn gap_times(product: &Product, list: &List) -> Times {
@@ -72,10 +73,10 @@ fn gap_times(product: &Product, list: &List) -> Times {
         ours.as_mut().map(|job| job as Job),
         &mut || packed_gap(&bytes),
         &mut || {
-            let list = decode(good_records(&bytes));
+            let list = decode(&good_records(&bytes));
             token(rust_gap(&Decoded { lists: [&list, &[]] }))
         },
-        &mut || cells::gap(&decode(good_records(&bytes)), STATES).is_ok(),
+        &mut || cells::gap(&decode(&good_records(&bytes)), STATES).is_ok(),
     )
 }
 
@@ -239,11 +240,11 @@ pub fn wants(page: &mut Page, product: &Product) {
         let times = Times::of(
             ours.as_mut().map(|job| job as Job),
             &mut || {
-                let packed = Packed { lists: [good_records(bytes), &[]] };
+                let packed = Packed { lists: [&good_records(bytes), &[]] };
                 token(baseline::search(&packed, &ALL, want, &mut 0))
             },
             &mut || {
-                let list = decode(good_records(bytes));
+                let list = decode(&good_records(bytes));
                 token(baseline::search(&Decoded { lists: [&list, &[]] }, &ALL, want, &mut 0))
             },
             &mut || false,

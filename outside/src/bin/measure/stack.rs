@@ -1,6 +1,7 @@
 //! Stack, in bytes on a painted one.
 
 use outside::deep::{families, merging_stacks};
+use outside::entry::HEADER;
 use outside::generate::RISING;
 use outside::page::{count, Table};
 use outside::product::Product;
@@ -21,7 +22,7 @@ pub fn stacks(page: &mut Page, product: &Product) {
         for family in families() {
             let used = family.pairs.iter().map(|(first, second)| {
                 stack.used(&mut || {
-                    compare(first, second, &mut [0; 13]);
+                    compare(first, second, &mut [0; HEADER]);
                 })
             });
             let most = used.max().expect("some pairs");
