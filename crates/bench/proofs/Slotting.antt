@@ -8,13 +8,14 @@ use mathlib.Core.Path.{_≡_, refl, sym, _∙_, ap, ap₂, subst}
 use mathlib.Core.Bool.{Bool, true, false, cond}
 use mathlib.Core.List.{List, [], _∷_, _++_, map, append-nil}
 use mathlib.Core.Option.{Option, none, some}
-use lib.Dec.{leb}
+use lib.Dec.{leb, eqb}
 use lib.ListN.{length, getD, take, drop, replicate, length-take, length-map, List·getD-map}
 use lib.Seq.{paste, take-length, take-suc, take-all}
-use borrow.Author.Tests.{eq-eqb, ne-eqb, leb-true, leb-false}
+use borrow.Author.Tests.{leb-true, leb-false}
 use Rattle.policy.specs.Header.{headers}
 use Rattle.policy.specs.declared.entry.Entry.{Entry}
 use Rattle.wire.specs.Format.{Bytes, headSize, recordSize, filedLimit, versionIn, entriesFrom, recordsIn}
+use Rattle.wire.proofs.Bytes.{bytes-take}
 use Rattle.wire.proofs.Records.{entries-fit}
 use Rattle.reconcile.specs.Rules.{Working}
 use Rattle.reconcile.specs.steps.Stage.{filedIn, added, addedAll}
@@ -54,8 +55,8 @@ slot-made s b e =
 
 -- ---- the list of a slot
 
-pub records-fit : (s : List ℕ) → Bytes s → AllFit (filedIn s)
-records-fit s f = entries-fit s 0 (min (recordsIn s) filedLimit) f
+pub slot-fits : (slot : Slot) → Bytes (slot .bytes) → AllFit (slotList slot)
+slot-fits slot f = entries-fit (bytesIn slot) 0 (min (recordsIn (bytesIn slot)) filedLimit) (bytes-take (slot .length) (slot .bytes) f)
 
 -- no bytes behind a head, no entries
 none-behind : (s : List ℕ) → length s ≤ headSize → filedIn s ≡ []
@@ -66,10 +67,9 @@ none-behind s l = ap (λ (n : ℕ). entriesFrom s 0 (min n filedLimit)) (ap (_/ 
 
 -- the bytes lent are the slot's file, and at least a head
 pub slot-adds : (s r : Option Working) (slot : Slot) (end : ℕ) → length (slot .bytes) ≡ slotSize → end ≡ max headSize (min (slot .length) slotSize)
-    → (r ≡ added headers s (filedIn (take (end - 0) (drop 0 (slot .bytes))))) × AllFit (filedIn (take (end - 0) (drop 0 (slot .bytes))))
-    → (r ≡ added headers s (slotList slot)) × AllFit (slotList slot)
+    → r ≡ added headers s (filedIn (take (end - 0) (drop 0 (slot .bytes)))) → r ≡ added headers s (slotList slot)
 slot-adds s r slot end z e f =
-    subst (λ (p : List Entry). (r ≡ added headers s p) × AllFit p) (ap (λ (n : ℕ). filedIn (take n (slot .bytes))) (all end) ∙ go (leb headSize (slot .length)) refl) f
+    f ∙ ap (added headers s) (ap (λ (n : ℕ). filedIn (take n (slot .bytes))) (all end) ∙ go (leb headSize (slot .length)) refl)
   where
     all : (n : ℕ) → n - 0 ≡ n
     all n = omega arith
@@ -127,19 +127,20 @@ module _ (slots : List Slot) (i : ℕ) (w : Option Working) (n : length slots �
       long : (m : ℕ) → m ≡ 8 → i < m
       long m e = omega arith
 
-  pub staged-vacant : i < 8 → slot .length ≡ 0 → Staged (take (i + 1) (map listInSlot slots)) w
-  staged-vacant l z =
-      let q = more none l (ap (λ (t : Bool). cond t none (some (slotList slot))) (eq-eqb (slot .length) 0 z)) in
+  pub staged-vacant : {t : Bool} → i < 8 → t ≡ eqb (slot .length) 0 → t ≡ true → Staged (take (i + 1) (map listInSlot slots)) w
+  staged-vacant l y z =
+      let q = more none l (ap (λ (t : Bool). cond t none (some (slotList slot))) (sym y ∙ z)) in
       subst (λ (k : Book). Staged k w) (sym q)
       (e .0 ∙ ap (addedAll headers none) (sym (inForce-snoc k none ∙ append-nil (inForce k))), each-snoc AllFit k none (e .1) tt)
 
-  pub staged-next : (v : Option Working) → i < 8 → (slot .length ≡ 0 → ⊥) → (v ≡ added headers w (slotList slot)) × AllFit (slotList slot) → Staged (take (i + 1) (map listInSlot slots)) v
-  staged-next v l z f =
-      let q = more (some (slotList slot)) l (ap (λ (t : Bool). cond t none (some (slotList slot))) (ne-eqb (slot .length) 0 z)) in
-      subst (λ (k : Book). Staged k v) (sym q) (
-        stages-next (inForce k) (slotList slot) w v (e .0) (f .0) ∙ ap (addedAll headers none) (sym (inForce-snoc k (some (slotList slot)))),
-        each-snoc AllFit k (some (slotList slot)) (e .1) (f .1, tt),
-      )
+  module _ {t : Bool} (l : i < 8) (y : t ≡ eqb (slot .length) 0) (z : t ≡ false) (f : AllFit (slotList slot)) where
+    pub staged-next : (v : Option Working) → v ≡ added headers w (slotList slot) → Staged (take (i + 1) (map listInSlot slots)) v
+    staged-next v a =
+        let q = more (some (slotList slot)) l (ap (λ (t : Bool). cond t none (some (slotList slot))) (sym y ∙ z)) in
+        subst (λ (k : Book). Staged k v) (sym q) (
+          stages-next (inForce k) (slotList slot) w v (e .0) a ∙ ap (addedAll headers none) (sym (inForce-snoc k (some (slotList slot)))),
+          each-snoc AllFit k (some (slotList slot)) (e .1) (f, tt),
+        )
 
   pub staged-all : 8 ≤ i → Staged (map listInSlot slots) w
   staged-all l = subst (λ (k : Book). Staged k w) (take-all i (map listInSlot slots) (long (length (map listInSlot slots)) (length-map slots listInSlot ∙ n))) e

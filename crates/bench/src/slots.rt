@@ -5,14 +5,16 @@ use reconcile::stage::add_list;
 use reconcile::stage::no_list;
 use wire::format::FILED_SIZE;
 use wire::format::HEAD_SIZE;
+use wire::format::LIST_LIMIT;
 use wire::put::put_bytes;
 ghost use mathlib.Core.Path.{_≡_};
 ghost use mathlib.Core.List.{map};
 ghost use Prim.Native.Nat.{_≤_, min, max};
+ghost use lib.Dec.{eqb};
 ghost use lib.ListN.{length};
 ghost use Rattle.policy.specs.Header.{headers};
-ghost use Rattle.wire.specs.Format.{headSize};
-ghost use Rattle.reconcile.specs.steps.Stage.{stageIn, filedIn, added};
+ghost use Rattle.wire.specs.Format.{headSize, listLimit};
+ghost use Rattle.reconcile.specs.steps.Stage.{stageIn, added};
 ghost use Rattle.bench.specs.Held.{slotSize, vacantSlot, slotWith, slotList, listInSlot};
 ghost use Rattle.bench.specs.steps.Staged.{Staged};
 ghost use Rattle.wire.specs.steps.Fits.{AllFit};
@@ -49,12 +51,11 @@ pub(crate) fn slot_with(file: &[u8]) -> Slot
     }
 }
 
-// Rules 1 and 2 for the list of a lent file more. Its numbers fit their bytes, since they are read from bytes.
-fn add_file(s: Stage, rows: &mut [u32; ROWS], file: &[u8]) -> Stage
-    requires { ⌜ headSize ≤ length (now file) ⌝ }
-    ensures { λ r. ⌜ (stageIn r ≡ added headers (stageIn s) (filedIn (now (file .entry)))) × AllFit (filedIn (now (file .entry))) ⌝ }
+// Whether a slot has no list. The numbers of the list in it fit their bytes, since they are read from bytes.
+fn is_vacant(slot: Slot) -> bool
+    ensures { λ t. ⌜ (t ≡ eqb (slot .length) 0) × AllFit (slotList slot) ⌝ }
 {
-    add_list(s, rows, file)
+    slot.length == 0
 }
 
 // Where the file ends in a slot that has a length, whatever the length: behind a head, and within the slot.
@@ -70,16 +71,18 @@ fn file_end(length: usize) -> usize
     SLOT_SIZE
 }
 
-// Rules 1 and 2 for the list of a slot. For every value of a slot: no more than its bytes are read.
+// Rules 1 and 2 for the list of a slot, where the working list is not crowded. For every value of a slot: no more than its bytes are read.
 fn add_slot(s: Stage, rows: &mut [u32; ROWS], slot: Slot) -> Stage
-    ensures { λ r. ⌜ (stageIn r ≡ added headers (stageIn s) (slotList slot)) × AllFit (slotList slot) ⌝ }
+    requires { ⌜ s .count ≤ listLimit ⌝ }
+    ensures { λ r. ⌜ stageIn r ≡ added headers (stageIn s) (slotList slot) ⌝ }
 {
     let end = file_end(slot.length);
     let bytes = slot.bytes;
-    add_file(s, rows, &bytes[0..end])
+    add_list(s, rows, &bytes[0..end])
 }
 
-// Rules 1 and 2 for the lists of all slots. The rows that are lent may hold anything.
+// Rules 1 and 2 for the lists of all slots. The rows that are lent may hold anything. A crowded list stays so: it is asked here, since a list that is handed on only to
+// be handed back is copied in each turn.
 pub(crate) fn add_slots(slots: [Slot; 8], rows: &mut [u32; ROWS]) -> Stage
     ensures { λ r. ⌜ Staged (map listInSlot slots) (stageIn r) ⌝ }
 {
@@ -88,7 +91,10 @@ pub(crate) fn add_slots(slots: [Slot; 8], rows: &mut [u32; ROWS]) -> Stage
     while i < 8 {
         let slot = slots[i];
         i += 1;
-        if slot.length == 0 {
+        if is_vacant(slot) {
+            continue;
+        }
+        if LIST_LIMIT < stage.count {
             continue;
         }
         stage = add_slot(stage, rows, slot);

@@ -22,7 +22,7 @@ pub fn is_crossed_box(b: &[u32; SIDES]) -> bool
 
 // Whether a direction from low to high is crossed. In one test, of a sum: 0 to 0, 0 to 1 and 1 to 1 come to at most 1, and no others. A shorter test would be put
 // together with those before it, so that each entry of a table would go through all of them.
-pub(crate) fn is_direction_crossed(low: u8, high: u8) -> bool
+pub fn is_direction_crossed(low: u8, high: u8) -> bool
     ensures { λ t. ⌜ t ≡ directionCrossed low high ⌝ }
 {
     1 < low as u32 + (high as u32 ^ 1)

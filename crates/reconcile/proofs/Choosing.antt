@@ -1,4 +1,4 @@
--- Installing on the array: the entries that are left are moved to the front, each with its best-ranked action alone, and struck again.
+-- Installing on the array: the entries that are left are moved to the front, each with its best-ranked action alone.
 -- Assumes nothing.
 use Prim.Native.Nat.{ℕ, suc, _+_, _-_, _<_, _≤_}
 use native.Mathlib.Omega.{arith}
@@ -9,13 +9,7 @@ use mathlib.Core.List.{List, [], _∷_, _++_, map}
 use lib.ListN.{length, getD, take, drop, set, length-set}
 use lib.Seq.{slice, slice-empty, take-suc, take-suc-set, drop-set-lt, drop-append-le, drop-drop, getD-drop, length-take-le}
 use Rattle.policy.specs.declared.entry.Entry.{Entry}
-use Rattle.policy.specs.Header.{headers}
-use Rattle.reconcile.specs.declared.settle.Verdict.{Verdict}
-use Rattle.reconcile.specs.declared.settle.Verdict.the-variants.{Merges}
-use Rattle.reconcile.specs.declared.settle.Settled.{Settled}
-use Rattle.reconcile.specs.Rules.{struck, merged}
-use Rattle.reconcile.specs.Installing.{withBest, installed}
-use Rattle.reconcile.specs.steps.Settled.{judgedAs, settledAs}
+use Rattle.reconcile.specs.Installing.{withBest}
 use Rattle.wire.proofs.Lists.{zeroEntry}
 
 -- the entries of ds from place first up to i have been moved, and the others stand as at the start
@@ -79,12 +73,3 @@ moved-all ranking ds es first i end m l k =
   where
     same : (i end : ℕ) → i ≤ end → end ≤ i → i ≡ end
     same i end l k = omega arith
-
--- ---- what installing makes of a merging
-
-module _ (s : Settled) (ranking : List ℕ) where
-  pub installs-merged : (p es : List Entry) (n : ℕ) → s .verdict ≡ Merges → take n es ≡ map (withBest ranking) (slice (s .left .first) (s .end) (s .left .entries))
-      → p ≡ struck headers (take n es) → merged p ≡ installed headers ranking (settledAs s)
-  installs-merged p es n e q r =
-      ap merged (r ∙ ap (struck headers) q)
-      ∙ ap (λ (v : Verdict). installed headers ranking (judgedAs v (slice (s .left .first) (s .end) (s .left .entries)))) (sym e)

@@ -15,7 +15,7 @@ pub mod Keeping
 pub mod Pairs
 pub mod Staging
 pub mod Finishing
-pub mod Settling
+pub mod Judging
 pub mod Choosing
 pub mod Writing
 pub mod Model

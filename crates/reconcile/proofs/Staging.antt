@@ -14,6 +14,7 @@ use Rattle.policy.specs.Header.{Box, lies, Headers, headers}
 use Rattle.policy.specs.Entry.{selector}
 use Rattle.policy.specs.Policy.{missed}
 use Rattle.policy.specs.steps.Rows.{rowSize, rowsIn, numbersOf}
+use Rattle.policy.proofs.Bool.{clash, is-false}
 use Rattle.wire.specs.Format.{filedLimit, listLimit, placeIn, recordsIn, entriesFrom}
 use Rattle.wire.specs.steps.Numbered.{entryIn}
 use Rattle.wire.specs.Lists.{emptyEntry}
@@ -66,13 +67,37 @@ module _ (x : Stage) (q : List Entry) where
   kept : x .bare ≡ false → (w : Working) → workingIn (x .entries) (x .count) ≡ w → added headers (stageIn x) q ≡ some (next headers w q)
   kept e w y = ap₂ (λ (b : Bool) (w : Working). added headers (cond b none (some w)) q) e y
 
-  pub added-crowded : x .bare ≡ false → listLimit < x .count → stageIn x ≡ added headers (stageIn x) q
-  added-crowded e l =
-      ap₂ (λ (b : Bool) (w : Working). cond b none (some w)) e (working-crowded (x .entries) (x .count) l)
-      ∙ sym (kept e crowded (working-crowded (x .entries) (x .count) l))
-
   pub added-next : (v : Option Working) → x .bare ≡ false → x .count ≤ listLimit → v ≡ some (next headers (list (take (x .count) (x .entries))) q) → v ≡ added headers (stageIn x) q
   added-next v e l y = y ∙ sym (kept e (list (take (x .count) (x .entries))) (working-list (x .entries) (x .count) l))
+
+-- ---- a crowded list stays so
+
+-- what counts no list is not crowded
+abbrev pub BareIsFew : Stage → Type 0
+BareIsFew x = x .bare ≡ true → x .count ≤ listLimit
+
+module _ (x : Stage) (q : List Entry) where
+  pub added-crowded : BareIsFew x → listLimit < x .count → stageIn x ≡ added headers (stageIn x) q
+  added-crowded k l = is ∙ sym (ap (λ (w : Option Working). added headers w q) is)
+    where
+      is : stageIn x ≡ some crowded
+      is = ap₂ (λ (b : Bool) (w : Working). cond b none (some w)) (is-false (x .bare) λ e. omega (arith, k e)) (working-crowded (x .entries) (x .count) l)
+
+  -- behind a list there is one
+  pub added-few : (w : Option Working) → stageIn x ≡ added headers w q → BareIsFew x
+  added-few w e b = clash b (bare (x .bare) ∙ ap bareIn e ∙ some-added w)
+    where
+      bareIn : Option Working → Bool
+      bareIn none = true
+      bareIn (some w) = false
+
+      bare : (t : Bool) → t ≡ bareIn (cond t none (some (workingIn (x .entries) (x .count))))
+      bare true = refl
+      bare false = refl
+
+      some-added : (w : Option Working) → bareIn (added headers w q) ≡ false
+      some-added none = refl
+      some-added (some w) = refl
 
 -- ---- the stages make the merging
 

@@ -5,29 +5,29 @@ use mathlib.Core.Path.{_≡_, refl, sym, _∙_, ap}
 use mathlib.Core.Bool.{Bool, true, false, not, cond}
 use mathlib.Core.List.{List, [], _∷_, map}
 use lib.Dec.{ltb}
-use lib.ListN.{length}
-use lib.Seq.{slice}
+use lib.ListN.{length, take}
 use borrow.Author.Tests.{lt-ltb, le-ltb}
 use Rattle.policy.specs.declared.header.Found.{Found}
 use Rattle.policy.specs.declared.header.Found.the-variants.{At, Nothing}
 use Rattle.policy.specs.declared.entry.Entry.{Entry}
 use Rattle.policy.specs.declared.refusal.Refusal.{Refusal}
 use Rattle.policy.specs.declared.refusal.Refusal.the-variants.{Bare, Crowded, Conflict, Narrow, Ranking}
-use Rattle.policy.specs.Header.{Headers}
+use Rattle.policy.specs.Header.{Headers, headers}
 use Rattle.policy.specs.Ranking.{isRanking}
 use Rattle.policy.specs.Refusals.{Answer, refusal, accepted, refuse, refuseAt, firstOf}
 use Rattle.policy.proofs.Refusals.{refusal-refuses}
 use Rattle.wire.specs.Format.{mergedVersion, fileSize, fileOf}
 use Rattle.wire.specs.Answers.{ifAccepted}
 use Rattle.wire.specs.Writing.{placed, tooNarrow}
-use Rattle.reconcile.specs.declared.settle.Verdict.{Verdict}
-use Rattle.reconcile.specs.declared.settle.Verdict.the-variants as verdict
-use Rattle.reconcile.specs.declared.settle.Settled.{Settled}
+use Rattle.reconcile.specs.declared.stage.Stage.{Stage}
+use Rattle.reconcile.specs.declared.verdict.Verdict.{Verdict}
+use Rattle.reconcile.specs.declared.verdict.Verdict.the-variants as verdict
 use Rattle.reconcile.specs.declared.ending.Merged.the-variants.{Done, Refused}
 use Rattle.reconcile.specs.Rules.{Working, list, crowded, working, conflictOf, struck, Merging, refused, merged, finished, mergeOf}
 use Rattle.reconcile.specs.Installing.{withBest, installed, installOf}
 use Rattle.reconcile.specs.Ending.{answerOf, endingOf, isCrowded, leftOf, workingOf, mergeChecks, installChecks}
-use Rattle.reconcile.specs.steps.Settled.{judgedAs, settledAs}
+use Rattle.reconcile.specs.steps.Stage.{stageIn, ended}
+use Rattle.reconcile.specs.steps.Verdicts.{judgedAs, Judged}
 use Rattle.reconcile.specs.steps.Ending.{ending}
 
 -- ---- writing
@@ -54,20 +54,19 @@ module _ (p : List Entry) (b : List ℕ) (n : ℕ) (z : length p ≡ n) where
       (answer-is
       ∙ ap (λ (t : Bool). firstOf (refuse t (Narrow (fileSize mergedVersion n)) ∷ []) (accepted (n ∷ fileSize mergedVersion n ∷ []))) (le-ltb (length b) (fileSize mergedVersion n) (rw g at l))))
 
--- ---- what a merging comes to is written
+-- ---- what a merging or an installing comes to is written: f is what becomes of a merging
 
-module _ (s : Settled) (b : List ℕ) where
-  pub wrote-refused : (r : Refusal) → s .verdict ≡ verdict.Refused r → ending (Refused r) b ≡ endingOf (settledAs s) b
-  wrote-refused r e =
+module _ (s : Stage) (v : Verdict) (rows b : List ℕ) (j : Judged s v rows) (f : Merging → Merging) where
+  pub ends-refused : (r : Refusal) → v ≡ verdict.Refused r → f (refused r) ≡ refused r → ending (Refused r) b ≡ endingOf (f (ended headers (stageIn s))) b
+  ends-refused r e k =
       ap (λ (t : Bool). (refusal r, cond t b b)) (sym (refusal-refuses r))
-      ∙ ap (λ (v : Verdict). endingOf (judgedAs v (slice (s .left .first) (s .end) (s .left .entries))) b) (sym e)
+      ∙ ap (λ (m : Merging). endingOf m b) (sym k ∙ ap (λ (v : Verdict). f (judgedAs v (struck headers (take (s .count) (s .entries))))) (sym e) ∙ ap f (j .outcome))
 
-  pub wrote-merged : (a : Answer × List ℕ) → s .verdict ≡ verdict.Merges → a ≡ endingOf (merged (slice (s .left .first) (s .end) (s .left .entries))) b → a ≡ endingOf (settledAs s) b
-  wrote-merged a e q = q ∙ ap (λ (v : Verdict). endingOf (judgedAs v (slice (s .left .first) (s .end) (s .left .entries))) b) (sym e)
-
--- the same of a merging that it is
-pub wrote-as : (a : Answer × List ℕ) (b : List ℕ) (m n : Merging) → a ≡ endingOf m b → m ≡ n → a ≡ endingOf n b
-wrote-as a b m n p q = p ∙ ap (λ (x : Merging). endingOf x b) q
+  pub ends-merged : (a : Answer × List ℕ) (p : List Entry) → v ≡ verdict.Merges → merged p ≡ f (merged (struck headers (take (s .count) (s .entries))))
+      → a ≡ endingOf (merged p) b → a ≡ endingOf (f (ended headers (stageIn s))) b
+  ends-merged a p e k q =
+      q
+      ∙ ap (λ (m : Merging). endingOf m b) (k ∙ ap (λ (v : Verdict). f (judgedAs v (struck headers (take (s .count) (s .entries))))) (sym e) ∙ ap f (j .outcome))
 
 -- ---- the answer is that of the checks in their order
 

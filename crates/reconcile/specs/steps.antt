@@ -1,6 +1,6 @@
 pub mod Pass
 pub mod Stage
-pub mod Settled
+pub mod Verdicts
 pub mod Tests
 pub mod Catching
 pub mod Ending

@@ -1,11 +1,11 @@
 // The end of a merging or an installing: the file.
 use crate::install::install_best;
-use crate::settle::Settled;
-use crate::settle::Verdict;
-use crate::settle::settle_stage;
 use crate::stage::ROWS;
 use crate::stage::Stage;
 use crate::strike::Struck;
+use crate::strike::strike_entries;
+use crate::verdict::Verdict;
+use crate::verdict::judge_stage;
 use policy::refusal::Refusal;
 use wire::format::MERGED_VERSION;
 use wire::format::file_size;
@@ -21,7 +21,6 @@ ghost use Rattle.reconcile.specs.Rules.{merged};
 ghost use Rattle.reconcile.specs.Installing.{installed};
 ghost use Rattle.reconcile.specs.Ending.{endingOf};
 ghost use Rattle.reconcile.specs.steps.Stage.{stageIn, ended};
-ghost use Rattle.reconcile.specs.steps.Settled.{settledAs, InOrder};
 ghost use Rattle.reconcile.specs.steps.Ending.{ending};
 
 pub enum Merged {
@@ -49,26 +48,18 @@ fn write_merged(left: Struck, n: usize, buffer: &mut [u8]) -> Merged
     }
 }
 
-// Writes the list that a merging comes to, unless it is refused.
-fn write_settled(s: Settled, buffer: &mut [u8]) -> Merged
-    requires { ⌜ InOrder s ⌝ }
-    ensures { λ r. ⌜ ending r (now (buffer .exit)) ≡ endingOf (settledAs s) (now (buffer .entry)) ⌝ }
-{
-    let verdict = s.verdict;
-    match verdict {
-        Verdict::Refused(r) => Merged::Refused(r),
-        Verdict::Merges => {
-            let left = s.left;
-            write_merged(left, s.end, buffer)
-        }
-    }
-}
-
 // Ends a merging: writes the merged list as a file to the start of a buffer, or says why not. The rows that are lent may hold anything.
 pub fn end_merging(s: Stage, rows: &mut [u32; ROWS], buffer: &mut [u8]) -> Merged
     ensures { λ r. ⌜ ending r (now (buffer .exit)) ≡ endingOf (ended headers (stageIn s)) (now (buffer .entry)) ⌝ }
 {
-    write_settled(settle_stage(s, rows), buffer)
+    match judge_stage(s, rows) {
+        Verdict::Refused(r) => Merged::Refused(r),
+        Verdict::Merges => {
+            let entries = s.entries;
+            let left = strike_entries(entries, s.count, rows);
+            write_merged(left, s.count, buffer)
+        }
+    }
 }
 
 // The same for the installed list.
@@ -76,6 +67,14 @@ pub fn end_installing(s: Stage, rows: &mut [u32; ROWS], ranking: &[u8], buffer: 
     requires { ⌜ isRanking (now ranking) ≡ true ⌝ }
     ensures { λ r. ⌜ ending r (now (buffer .exit)) ≡ endingOf (installed headers (now (ranking .entry)) (ended headers (stageIn s))) (now (buffer .entry)) ⌝ }
 {
-    let settled = settle_stage(s, rows);
-    write_settled(install_best(settled, ranking, rows), buffer)
+    match judge_stage(s, rows) {
+        Verdict::Refused(r) => Merged::Refused(r),
+        Verdict::Merges => {
+            let entries = s.entries;
+            let left = strike_entries(entries, s.count, rows);
+            let n = s.count - left.first;
+            let again = install_best(left, s.count, ranking, rows);
+            write_merged(again, n, buffer)
+        }
+    }
 }

@@ -1,10 +1,8 @@
 // Installing: each entry of the merged list keeps its best-ranked action, and rule 4 strikes again.
-use crate::settle::Settled;
-use crate::settle::Verdict;
-use crate::settle::put_rows;
 use crate::stage::ROWS;
 use crate::strike::Struck;
 use crate::strike::strike_entries;
+use crate::verdict::put_rows;
 use policy::entry::Entry;
 use policy::ranking::best_of;
 use wire::format::LIST_LIMIT;
@@ -17,8 +15,8 @@ ghost use lib.Seq.{slice};
 ghost use Rattle.policy.specs.Header.{headers};
 ghost use Rattle.policy.specs.Ranking.{isRanking};
 ghost use Rattle.wire.specs.Format.{listLimit};
-ghost use Rattle.reconcile.specs.Installing.{withBest, installed};
-ghost use Rattle.reconcile.specs.steps.Settled.{settledAs, InOrder};
+ghost use Rattle.reconcile.specs.Rules.{struck};
+ghost use Rattle.reconcile.specs.Installing.{withBest};
 
 // e with the best-ranked action of its set alone.
 fn with_best(ranking: &[u8], e: Entry) -> Entry
@@ -46,25 +44,20 @@ fn choose_best(left: Struck, end: usize, ranking: &[u8]) -> [Entry; LIST_LIMIT]
     entries
 }
 
-// What installing makes of a merging. The rows that are lent may hold anything.
-pub(crate) fn install_best(s: Settled, ranking: &[u8], rows: &mut [u32; ROWS]) -> Settled
-    requires { ⌜ InOrder s × (isRanking (now ranking) ≡ true) ⌝ }
-    ensures { λ r. ⌜ (settledAs r ≡ installed headers (now (ranking .entry)) (settledAs s)) × InOrder r ⌝ }
+// What installing makes of the entries that are left before place end: as many, each with its best-ranked action alone, from which rule 4 strikes again. The rows that
+// are lent may hold anything.
+pub(crate) fn install_best(
+    left: Struck,
+    end: usize,
+    ranking: &[u8],
+    rows: &mut [u32; ROWS],
+) -> Struck
+    requires { ⌜ (left .first ≤ end) × ((end ≤ listLimit) × (isRanking (now ranking) ≡ true)) ⌝ }
+    ensures { λ r. ⌜ (r .first ≤ end - left .first)
+        × (slice (r .first) (end - left .first) (r .entries) ≡ struck headers (map (withBest (now (ranking .entry))) (slice (left .first) end (left .entries)))) ⌝ }
 {
-    let verdict = s.verdict;
-    match verdict {
-        Verdict::Refused(_) => s,
-        Verdict::Merges => {
-            let left = s.left;
-            let end = s.end - left.first;
-            let entries = choose_best(left, s.end, ranking);
-            put_rows(entries, end, rows);
-            let again = strike_entries(entries, end, rows);
-            Settled {
-                verdict: Verdict::Merges,
-                left: again,
-                end,
-            }
-        }
-    }
+    let n = end - left.first;
+    let entries = choose_best(left, end, ranking);
+    put_rows(entries, n, rows);
+    strike_entries(entries, n, rows)
 }

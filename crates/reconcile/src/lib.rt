@@ -2,6 +2,6 @@
 pub mod cross;
 pub mod ending;
 pub mod install;
-pub mod settle;
 pub mod stage;
 pub mod strike;
+pub mod verdict;

@@ -33,7 +33,7 @@ pub struct Stage {
 
 // The stage before the first list.
 pub fn no_list() -> Stage
-    ensures { λ r. ⌜ stageIn r ≡ none ⌝ }
+    ensures { λ r. ⌜ (stageIn r ≡ none) × (r .count ≤ listLimit) ⌝ }
 {
     Stage {
         entries: [EMPTY; LIST_LIMIT],
@@ -68,17 +68,14 @@ fn first_list(mut entries: [Entry; LIST_LIMIT], rows: &mut [u32], file: &[u8]) -
     }
 }
 
-// Rules 1 and 2 for one party's list more, in a file. The rows that are lent may hold anything.
+// Rules 1 and 2 for one party's list more, in a file, where the working list is not crowded. The rows that are lent may hold anything.
 pub fn add_list(s: Stage, rows: &mut [u32; ROWS], file: &[u8]) -> Stage
-    requires { ⌜ headSize ≤ length (now file) ⌝ }
+    requires { ⌜ (s .count ≤ listLimit) × (headSize ≤ length (now file)) ⌝ }
     ensures { λ r. ⌜ stageIn r ≡ added headers (stageIn s) (filedIn (now (file .entry))) ⌝ }
 {
     let entries = s.entries;
     if s.bare {
         return first_list(entries, rows, file);
-    }
-    if LIST_LIMIT < s.count {
-        return s;
     }
     cross_list(entries, s.count, rows, file)
 }

@@ -8,8 +8,7 @@ use mathlib.Core.Bool.{Bool, true, false, cond}
 use mathlib.Core.List.{List, [], _∷_, _++_}
 use mathlib.Core.Option.{Option, none, some}
 use lib.Dec.{ltb}
-use lib.ListN.{length, getD, take, drop, length-append, length-take, length-drop, length-replicate, List·getD-eq-default, drop-of-length-le}
-use lib.Seq.{getD-take, getD-drop}
+use lib.ListN.{length, take, drop, length-append, length-take, length-drop, length-replicate, drop-of-length-le}
 use borrow.Author.Tests.{ltb-false, ltb-true}
 use Rattle.policy.specs.declared.header.Found.{Found}
 use Rattle.policy.specs.declared.header.Found.the-variants.{At, Nothing}
@@ -21,6 +20,7 @@ use Rattle.policy.specs.Entry.{crossed}
 use Rattle.policy.specs.Refusals.{Answer, refusal, accepted, refuse, refuseAt, firstOf}
 use Rattle.wire.specs.Format.{Bytes, mergedVersion, headSize, recordSize, filedLimit, listLimit, fileSize, fileOf, countIn, listIn}
 use Rattle.wire.specs.Checks.{missized, badVersion, badCount, firstFrom, firstCrossed, refuseEntry}
+use Rattle.wire.proofs.Bytes.{bytes-take, bytes-drop}
 use Rattle.wire.proofs.Entries.{length-entries}
 use Rattle.region.specs.ListChecks.{gapOf}
 use Rattle.policy.specs.Header.{headers}
@@ -144,16 +144,6 @@ filing-length p s h g =
     below a b c = omega arith
 
 -- ---- the lines of the filings
-
-pub bytes-take : (n : ℕ) (s : List ℕ) → Bytes s → Bytes (take n s)
-bytes-take n s b i = go (ltb i n) refl
-  where
-    go : (t : Bool) → ltb i n ≡ t → getD (take n s) i 0 < 256
-    go true e = omega (arith, b i, getD-take n s i 0 (ltb-true i n e))
-    go false e = omega (arith, List·getD-eq-default (take n s) 0 {n = i} (omega (arith, length-take n s, ltb-false i n e)))
-
-pub bytes-drop : (n : ℕ) (s : List ℕ) → Bytes s → Bytes (drop n s)
-bytes-drop n s b i = omega (arith, b (n + i), getD-drop n s i 0)
 
 count-below : (s : List ℕ) → Bytes s → countIn s < 65536
 count-below s b = omega (arith, b 3, b 4)

@@ -15,6 +15,7 @@ use Rattle.policy.proofs.Refusals.{refusal-refuses}
 use Rattle.wire.specs.Format.{Bytes, mergedVersion, headSize, listLimit, fileSize, countIn, recordOf, recordsOf, fileOf}
 use Rattle.wire.specs.Answers.{ifAccepted}
 use Rattle.wire.specs.Writing.{placed}
+use Rattle.wire.proofs.Bytes.{bytes-take, bytes-drop}
 use Rattle.wire.proofs.Records.{entries-fit}
 use Rattle.wire.specs.steps.Fits.{AllFit}
 use Rattle.reconcile.specs.Crossproduct.{AllCovering}
@@ -30,7 +31,6 @@ use Rattle.bench.proofs.Fitting.{reads-back}
 use Rattle.bench.proofs.Demand3.{merged-list-is, demand-3}
 use Rattle.report.specs.Text.{ascii, decimal, hex}
 use Rattle.report.specs.Report.{inputLimit, fileRun, filingsIn, filingsOf, filingLines, refusedLine, recordLines, mergingLines, mergeBuffer, linesOf, reportOf}
-use Rattle.report.proofs.Length.{bytes-take, bytes-drop}
 
 -- ---- the lines of a list and of each outcome
 

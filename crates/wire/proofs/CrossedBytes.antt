@@ -1,15 +1,15 @@
 -- Whether a record is crossed, from its bytes: range by range, and the direction last, which a record of version 1 does not have.
 -- Assumes nothing.
 use Prim.Native.Nat.{ℕ, _+_, _-_, _<_, _≤_}
-use native.Mathlib.Omega.{arith}
 use mathlib.Core.Path.{_≡_, refl, sym, _∙_, ap, ap₂}
-use mathlib.Core.Bool.{Bool, true, false, not, cond, _&&_, _||_}
+use mathlib.Core.Bool.{Bool, true, false, not, cond, _&&_, _||_, or-false}
 use mathlib.Core.List.{List}
 use lib.Dec.{leb, ltb}
 use lib.ListN.{getD}
 use borrow.Author.Tests.{lt-leb, le-leb, lt-ltb, le-ltb, ltb-true, ltb-false, ne-eqb}
-use Rattle.policy.specs.Box.{Range, range}
+use Rattle.policy.specs.Box.{range}
 use Rattle.policy.specs.Entry.{crossed}
+use Rattle.policy.specs.steps.Directions.{directionCrossed}
 use Rattle.wire.specs.Format.{number2, number4, directionsAt, entryWith, entryAt}
 use Rattle.wire.specs.steps.Crossed.{addressesProper, portsProper}
 
@@ -22,10 +22,6 @@ pub by-second : (l h m k x y z w : ℕ) → x ≡ l → y ≡ h → x ≤ y → 
 by-second l h m k x y z w p q c r o = ap₂ leb r o ∙ sym (ap (_&& leb m k) (ap₂ leb (sym p) (sym q) ∙ le-leb x y c))
 
 -- ---- a record
-
--- the direction is crossed
-abbrev directionCrossed : Range → Bool
-directionCrossed d = not (leb (d .low) (d .high)) || (ltb 1 (d .low) || ltb 1 (d .high))
 
 -- a range by itself: what is tested is whether its high is below its low
 not-proper : (l h : ℕ) → not (leb l h) ≡ ltb h l
@@ -43,7 +39,7 @@ module _ (v : ℕ) (s : List ℕ) (at : ℕ) where
   protocolHigh = getD s (at + 25) 0
 
   abbrev rest : Bool
-  rest = not (leb protocolLow protocolHigh) || directionCrossed (directionsAt v s at)
+  rest = ltb protocolHigh protocolLow || directionCrossed (directionsAt v s at .low) (directionsAt v s at .high)
 
   by-ranges : crossed (entryAt v s at) ≡ (not (addressesProper s at) || (not (portsProper s at) || rest))
   by-ranges =
@@ -55,6 +51,8 @@ module _ (v : ℕ) (s : List ℕ) (at : ℕ) where
       (leb protocolLow protocolHigh)
       (leb (directionsAt v s at .low) (directionsAt v s at .high))
       (ltb 1 (directionsAt v s at .low) || ltb 1 (directionsAt v s at .high))
+      ∙ ap₂ (λ (x y : Bool). not (addressesProper s at) || (not (portsProper s at) || (x || (y || (ltb 1 (directionsAt v s at .low) || ltb 1 (directionsAt v s at .high))))))
+      (not-proper protocolLow protocolHigh) (not-proper (directionsAt v s at .low) (directionsAt v s at .high))
     where
       spread : (a b c d e f g : Bool) → (not (a && (b && (c && (d && (e && (f && true)))))) || g) ≡ (not (a && b) || (not (c && d) || (not e || (not f || g))))
       spread false b c d e f g = refl
@@ -79,50 +77,18 @@ module _ (v : ℕ) (s : List ℕ) (at : ℕ) where
 -- in version 1 the protocol is the last
 pub by-protocol-alone : (s : List ℕ) (at : ℕ) (a : Bool) → a ≡ addressesProper s at → (p : Bool) → p ≡ portsProper s at → not a ≡ false → not p ≡ false
     → ltb (getD s (at + 25) 0) (getD s (at + 24) 0) ≡ crossed (entryAt 1 s at)
-by-protocol-alone s at a address p port n m =
-    sym (by-rest 1 s at a address p port n m ∙ alone (leb (getD s (at + 24) 0) (getD s (at + 25) 0)) ∙ not-proper (getD s (at + 24) 0) (getD s (at + 25) 0))
-  where
-    alone : (b : Bool) → (not b || directionCrossed (range 0 1)) ≡ not b
-    alone true = refl
-    alone false = refl
+by-protocol-alone s at a address p port n m = sym (by-rest 1 s at a address p port n m ∙ or-false (ltb (getD s (at + 25) 0) (getD s (at + 24) 0)))
 
 -- in version 2 the direction
 module _ (s : List ℕ) (at : ℕ) (a : Bool) (address : a ≡ addressesProper s at) (p : Bool) (port : p ≡ portsProper s at) (n : not a ≡ false) (m : not p ≡ false) where
-  abbrev low : ℕ
-  low = getD s (at + 26) 0
-
-  abbrev high : ℕ
-  high = getD s (at + 27) 0
-
-  tested : crossed (entryAt 2 s at) ≡ (ltb (getD s (at + 25) 0) (getD s (at + 24) 0) || (ltb high low || (ltb 1 low || ltb 1 high)))
-  tested =
-      by-rest 2 s at a address p port n m
-      ∙ ap₂ (λ (x y : Bool). x || (y || (ltb 1 low || ltb 1 high))) (not-proper (getD s (at + 24) 0) (getD s (at + 25) 0)) (not-proper low high)
+  abbrev byDirection : Bool
+  byDirection = directionCrossed (getD s (at + 26) 0) (getD s (at + 27) 0)
 
   pub by-protocol : getD s (at + 25) 0 < getD s (at + 24) 0 → true ≡ crossed (entryAt 2 s at)
-  by-protocol l = sym (tested ∙ ap (_|| (ltb high low || (ltb 1 low || ltb 1 high))) (lt-ltb (getD s (at + 25) 0) (getD s (at + 24) 0) l))
+  by-protocol l = sym (by-rest 2 s at a address p port n m ∙ ap (_|| byDirection) (lt-ltb (getD s (at + 25) 0) (getD s (at + 24) 0) l))
 
-  module _ (o : getD s (at + 24) 0 ≤ getD s (at + 25) 0) where
-    left : crossed (entryAt 2 s at) ≡ (ltb high low || (ltb 1 low || ltb 1 high))
-    left = tested ∙ ap (_|| (ltb high low || (ltb 1 low || ltb 1 high))) (le-ltb (getD s (at + 25) 0) (getD s (at + 24) 0) o)
-
-    pub end-above-1 : 1 < high → true ≡ crossed (entryAt 2 s at)
-    end-above-1 l = sym (left ∙ ap (λ (b : Bool). ltb high low || (ltb 1 low || b)) (lt-ltb 1 high l) ∙ last (ltb high low) (ltb 1 low))
-      where
-        last : (a b : Bool) → (a || (b || true)) ≡ true
-        last true b = refl
-        last false true = refl
-        last false false = refl
-
-    pub by-its-ends : high ≤ 1 → ltb high low ≡ crossed (entryAt 2 s at)
-    by-its-ends l = sym (left ∙ go low high l (ltb high low) refl)
-      where
-        low-too : (l h : ℕ) → l ≤ h → h ≤ 1 → l ≤ 1
-        low-too l h a c = omega arith
-
-        go : (l h : ℕ) → h ≤ 1 → (b : Bool) → ltb h l ≡ b → (b || (ltb 1 l || ltb 1 h)) ≡ b
-        go l h m true q = refl
-        go l h m false q = rw (le-ltb 1 l (low-too l h (ltb-false h l q) m), le-ltb 1 h m)
+  pub by-direction : (t : Bool) → getD s (at + 24) 0 ≤ getD s (at + 25) 0 → t ≡ byDirection → t ≡ crossed (entryAt 2 s at)
+  by-direction t l e = e ∙ sym (by-rest 2 s at a address p port n m ∙ ap (_|| byDirection) (le-ltb (getD s (at + 25) 0) (getD s (at + 24) 0) l))
 
 -- ---- the version of a file
 

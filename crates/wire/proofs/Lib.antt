@@ -1,5 +1,6 @@
 pub mod Within
 pub mod Answers
+pub mod Bytes
 pub mod Numbers
 pub mod Sizes
 pub mod Entries

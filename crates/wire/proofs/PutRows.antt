@@ -3,8 +3,9 @@
 use Prim.Native.Nat.{ℕ, _+_, _*_, _-_, _≤_}
 use native.Mathlib.Omega.{arith}
 use mathlib.Core.Path.{_≡_, sym, _∙_, ap, ap₂}
-use mathlib.Core.Bool.{Bool}
+use mathlib.Core.Bool.{Bool, cond}
 use mathlib.Core.List.{List, [], _∷_, _++_, append-nil}
+use lib.Dec.{eqb}
 use lib.ListN.{length, getD, take, drop}
 use lib.Seq.{paste, take-at}
 use Rattle.policy.specs.declared.entry.Entry.{Entry}
@@ -17,6 +18,7 @@ use Rattle.policy.proofs.Numbers.{length-numbers, numbers-in, numbers-append}
 use Rattle.wire.specs.Format.{recordSize, number2, number4, directionsAt, entryAt, versionIn, placeIn, entriesFrom}
 use Rattle.wire.specs.steps.Numbered.{entryIn}
 use Rattle.wire.specs.Writing.{placed}
+use Rattle.wire.proofs.Sizes.{low-is, high-is}
 use Rattle.wire.proofs.Entries.{length-entries, entries-split}
 use Rattle.wire.proofs.Writing.{placed-next}
 
@@ -38,11 +40,14 @@ put-all b c es n l p =
     ∙ numbers-in es
 
 -- the row of a record, from what is read of it
-pub row-read : (v : ℕ) (s : List ℕ) (at a b c d e f g h i j k l m r : ℕ) → a ≡ number4 s at → b ≡ number4 s (at + 4) → c ≡ number4 s (at + 8) → d ≡ number4 s (at + 12)
+pub row-read : (v : ℕ) (s : List ℕ) (at a b c d e f g h i j k l m r low high : ℕ) → a ≡ number4 s at → b ≡ number4 s (at + 4) → c ≡ number4 s (at + 8) → d ≡ number4 s (at + 12)
     → e ≡ number2 s (at + 16) → f ≡ number2 s (at + 18) → g ≡ number2 s (at + 20) → h ≡ number2 s (at + 22) → i ≡ getD s (at + 24) 0 → j ≡ getD s (at + 25) 0
-    → k ≡ directionsAt v s at .low → l ≡ directionsAt v s at .high → r ≡ recordSize v → m ≡ number2 s (at + (r - 2))
+    → low ≡ getD s (at + 26) 0 → k ≡ cond (eqb v 1) 0 low → high ≡ getD s (at + 27) 0 → l ≡ cond (eqb v 1) 1 high → r ≡ recordSize v → m ≡ number2 s (at + (r - 2))
     → (a ∷ b ∷ c ∷ d ∷ e ∷ f ∷ g ∷ h ∷ i ∷ j ∷ k ∷ l ∷ m ∷ []) ≡ numbersOf (entryAt v s at)
-row-read v s at a b c d e f g h i j k l m r p q t u w x y z o n aa bb cc dd = rw (p, q, t, u, w, x, y, z, o, n, aa, bb, dd, cc)
+row-read v s at a b c d e f g h i j k l m r low high p q t u w x y z o n ll aa hh bb cc dd =
+    let first : k ≡ directionsAt v s at .low = aa ∙ ap (cond (eqb v 1) 0) ll ∙ low-is (eqb v 1) (getD s (at + 26) 0) (getD s (at + 27) 0) in
+    let last : l ≡ directionsAt v s at .high = bb ∙ ap (cond (eqb v 1) 1) hh ∙ high-is (eqb v 1) (getD s (at + 26) 0) (getD s (at + 27) 0) in
+    rw (p, q, t, u, w, x, y, z, o, n, first, last, dd, cc)
 
 pub row-is : (s row : List ℕ) (v i at : ℕ) → v ≡ versionIn s → at ≡ placeIn s i → row ≡ numbersOf (entryAt v s at) → row ≡ numbersOf (entryIn s i)
 row-is s row v i at q e r = r ∙ ap₂ (λ (w k : ℕ). numbersOf (entryAt w s k)) q e

@@ -10,8 +10,8 @@ use lib.Dec.{eqb}
 use lib.ListN.{length, getD}
 use borrow.Author.Tests.{eq-eqb, ne-eqb}
 use Rattle.policy.specs.declared.entry.Entry.{Entry}
-use Rattle.policy.specs.Box.{Range, range}
-use Rattle.wire.specs.Format.{isVersion, headSize, filedLimit, recordSize, fileSize, number2, bytes2, headOf, versionIn, countIn, entryWith, directionsAt, entryAt, placeIn, recordsIn}
+use Rattle.policy.specs.Box.{range}
+use Rattle.wire.specs.Format.{isVersion, headSize, filedLimit, recordSize, fileSize, number2, bytes2, headOf, versionIn, countIn, entryWith, entryAt, placeIn, recordsIn}
 use Rattle.wire.specs.steps.Numbered.{entryIn}
 
 -- what the code's tests of the version show
@@ -162,24 +162,21 @@ set-there s i at r e q m = set-within (versionIn s) r at (length s) q (record-th
 pub set-is : (s : List ℕ) (i at r a : ℕ) → at ≡ placeIn s i → r ≡ recordSize (versionIn s) → a ≡ number2 s (at + (r - 2)) → a ≡ entryIn s i .actions
 set-is s i at r a e q p = p ∙ ap₂ (λ (k n : ℕ). number2 s (k + (n - 2))) e q
 
--- the direction of a record: one of version 1 covers both
-directions-one : (v : ℕ) (s : List ℕ) (at : ℕ) → v ≡ 1 → range 0 1 ≡ directionsAt v s at
-directions-one v s at one = sym (ap (λ (b : Bool). cond b (range 0 1) (range (getD s (at + 26) 0) (getD s (at + 27) 0))) (eq-eqb v 1 one))
+-- a number by the test of the version
+pub by-one : (v x y : ℕ) → v ≡ 1 → x ≡ cond (eqb v 1) x y
+by-one v x y one = sym (ap (λ (b : Bool). cond b x y) (eq-eqb v 1 one))
 
-directions-other : (v : ℕ) (s : List ℕ) (at : ℕ) → (v ≡ 1 → ⊥) → range (getD s (at + 26) 0) (getD s (at + 27) 0) ≡ directionsAt v s at
-directions-other v s at other = sym (ap (λ (b : Bool). cond b (range 0 1) (range (getD s (at + 26) 0) (getD s (at + 27) 0))) (ne-eqb v 1 other))
+pub by-other : (v x y : ℕ) → (v ≡ 1 → ⊥) → y ≡ cond (eqb v 1) x y
+by-other v x y other = sym (ap (λ (b : Bool). cond b x y) (ne-eqb v 1 other))
 
-pub low-one : (v : ℕ) (s : List ℕ) (at : ℕ) → v ≡ 1 → 0 ≡ directionsAt v s at .low
-low-one v s at one = ap (λ (d : Range). d .low) (directions-one v s at one)
+-- the direction of a record, end by end
+pub low-is : (b : Bool) (l h : ℕ) → cond b 0 l ≡ cond b (range 0 1) (range l h) .low
+low-is true l h = refl
+low-is false l h = refl
 
-pub low-other : (v : ℕ) (s : List ℕ) (at x : ℕ) → (v ≡ 1 → ⊥) → x ≡ getD s (at + 26) 0 → x ≡ directionsAt v s at .low
-low-other v s at x other e = e ∙ ap (λ (d : Range). d .low) (directions-other v s at other)
-
-pub high-one : (v : ℕ) (s : List ℕ) (at : ℕ) → v ≡ 1 → 1 ≡ directionsAt v s at .high
-high-one v s at one = ap (λ (d : Range). d .high) (directions-one v s at one)
-
-pub high-other : (v : ℕ) (s : List ℕ) (at x : ℕ) → (v ≡ 1 → ⊥) → x ≡ getD s (at + 27) 0 → x ≡ directionsAt v s at .high
-high-other v s at x other e = e ∙ ap (λ (d : Range). d .high) (directions-other v s at other)
+pub high-is : (b : Bool) (l h : ℕ) → cond b 1 h ≡ cond b (range 0 1) (range l h) .high
+high-is true l h = refl
+high-is false l h = refl
 
 -- the direction and the action set stand where the test of the version says
 pub record-of-one : (v : ℕ) (s : List ℕ) (at a : ℕ) (e : Entry) → v ≡ 1 → a ≡ number2 s (at + 26) → e ≡ entryWith s at (range 0 1) a → e ≡ entryAt v s at

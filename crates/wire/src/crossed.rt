@@ -1,6 +1,7 @@
 // Whether a record is crossed, from its bytes: lookup checks its file each time, and to make an entry of each record takes more than twice the time.
 use crate::number::read2;
 use crate::number::read4;
+use policy::direction::is_direction_crossed;
 ghost use mathlib.Core.Path.{_≡_};
 ghost use Prim.Native.Nat.{_+_, _≤_};
 ghost use lib.ListN.{length};
@@ -58,9 +59,5 @@ pub(crate) fn is_record_2_crossed(s: &[u8], at: usize) -> bool
     if s[at + 25] < s[at + 24] {
         return true;
     }
-    let high = s[at + 27];
-    if 1 < high {
-        return true;
-    }
-    high < s[at + 26]
+    is_direction_crossed(s[at + 26], s[at + 27])
 }

@@ -7,6 +7,9 @@ pub const MERGED_VERSION: u8 = 2;
 
 pub const HEAD_SIZE: usize = 5;
 
+// The bytes of a header's numbers.
+pub const HEADER_SIZE: usize = 14;
+
 pub const FILED_LIMIT: usize = 32;
 
 pub const LIST_LIMIT: usize = 256;

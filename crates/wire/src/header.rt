@@ -1,4 +1,5 @@
 // A header's numbers as bytes.
+use crate::format::HEADER_SIZE;
 use crate::put::put_bytes;
 use policy::header::Header;
 ghost use mathlib.Core.Path.{_≡_};
@@ -6,7 +7,7 @@ ghost use Rattle.policy.specs.Refusals.{numbers};
 ghost use Rattle.wire.specs.Format.{headerBytes, headerPut};
 
 // The numbers of h, the highest byte of each first.
-pub fn header_bytes(h: Header) -> [u8; 14]
+pub fn header_bytes(h: Header) -> [u8; HEADER_SIZE]
     ensures { λ r. ⌜ r ≡ headerBytes (numbers h) ⌝ }
 {
     [
@@ -27,11 +28,11 @@ pub fn header_bytes(h: Header) -> [u8; 14]
     ]
 }
 
-// Puts the header at the start of the buffer, if it has 14 bytes.
+// Puts the header at the start of the buffer, if it has room.
 pub fn put_header(buffer: &mut [u8], h: Header)
     ensures { λ _. ⌜ now (buffer .exit) ≡ headerPut (numbers h) (now (buffer .entry)) ⌝ }
 {
-    if 14 <= buffer.len() {
+    if HEADER_SIZE <= buffer.len() {
         let bytes = header_bytes(h);
         put_bytes(buffer, 0, &bytes);
     }

@@ -12,14 +12,16 @@ use policy::header::whole;
 use policy::sides::ROW;
 use policy::sides::is_same;
 ghost use mathlib.Core.Path.{_≡_};
+ghost use mathlib.Core.Bool.{cond};
 ghost use Prim.Native.Nat.{_+_, _*_, _≤_};
+ghost use lib.Dec.{eqb};
 ghost use lib.ListN.{length, take};
 ghost use lib.Seq.{paste};
 ghost use Rattle.policy.specs.steps.Boxes.{sameBox};
 ghost use Rattle.policy.specs.Header.{arity, everything};
 ghost use Rattle.policy.specs.Entry.{selector};
 ghost use Rattle.policy.specs.steps.Rows.{rowSize, rowsIn, numbersOf};
-ghost use Rattle.wire.specs.Format.{recordSize, directionsAt, entryAt, versionIn, placeIn, entriesFrom};
+ghost use Rattle.wire.specs.Format.{recordSize, entryAt, versionIn, placeIn, entriesFrom};
 ghost use Rattle.wire.specs.steps.Numbered.{entryIn};
 
 // Copies numbers to a place.
@@ -43,32 +45,16 @@ pub fn put_row(rows: &mut [u32], at: usize, e: Entry)
     put_numbers(rows, at, &row);
 }
 
-// The ends of the direction of the record at a place, in a file of a version: one of version 1 covers both. The byte is read in either, where version 1 has the
-// action set: without a branch between them, the compiler reads the numbers of a record whole, and not byte by byte.
-fn direction_low(s: &[u8], at: usize, version: u8) -> u32
-    requires { ⌜ at + 28 ≤ length (now s) ⌝ }
-    ensures { λ r. ⌜ r ≡ directionsAt version (now (s .entry)) at .low ⌝ }
+// A number that is one in a file of version 1, and other in one of version 2. Both are at hand: without a branch between them, the compiler reads the numbers of a
+// record whole, and not byte by byte.
+fn by_version(version: u8, one: u32, other: u32) -> u32
+    ensures { λ r. ⌜ r ≡ cond (eqb version 1) one other ⌝ }
 {
-    let low = read1(s, at + 26);
-    if version == 1 {
-        return 0;
-    }
-    low
-}
-
-fn direction_high(s: &[u8], at: usize, version: u8) -> u32
-    requires { ⌜ at + 28 ≤ length (now s) ⌝ }
-    ensures { λ r. ⌜ r ≡ directionsAt version (now (s .entry)) at .high ⌝ }
-{
-    let high = read1(s, at + 27);
-    if version == 1 {
-        return 1;
-    }
-    high
+    if version == 1 { one } else { other }
 }
 
 // The row of the record at a place, in a file of a version, read from its bytes: decoding, which alone calls it, takes some five times as long with an entry
-// made of each record.
+// made of each record. One of version 1 covers both directions, and its action set is where version 2 has the direction.
 fn read_row(s: &[u8], at: usize, version: u8) -> [u32; ROW]
     requires { ⌜ (at + 28 ≤ length (now s)) × (at + recordSize version ≤ length (now s)) ⌝ }
     ensures { λ r. ⌜ r ≡ numbersOf (entryAt version (now (s .entry)) at) ⌝ }
@@ -84,8 +70,8 @@ fn read_row(s: &[u8], at: usize, version: u8) -> [u32; ROW]
         read2(s, at + 22) as u32,
         read1(s, at + 24),
         read1(s, at + 25),
-        direction_low(s, at, version),
-        direction_high(s, at, version),
+        by_version(version, 0, read1(s, at + 26)),
+        by_version(version, 1, read1(s, at + 27)),
         read2(s, at + (record_size(version) - 2)) as u32,
     ]
 }

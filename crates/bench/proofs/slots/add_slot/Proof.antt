@@ -18,30 +18,30 @@ slot-size c = length-unmapped ℕ (c .args .slot .bytes) 965 (c .good .1 .1 .0 .
 file-end-requires : tie.Need-file-end-requires
 file-end-requires c κs = search needs
 
-sub-add-file : tie.Need-sub-add-file
-sub-add-file c = search needs
+sub-add-list : tie.Need-sub-add-list
+sub-add-list c = search needs
 
-part-add-file-start : tie.Need-part-add-file-start
-part-add-file-start c = search needs
+part-add-list-start : tie.Need-part-add-list-start
+part-add-list-start c = search needs
 
-part-add-file-end : tie.Need-part-add-file-end
-part-add-file-end c = let k = slot-size (c .before .before .before .before) in omega arith
+part-add-list-end : tie.Need-part-add-list-end
+part-add-list-end c = let k = slot-size (c .before .before .before .before) in omega arith
 
-add-file-requires : tie.Need-add-file-requires
-add-file-requires c κs = search needs
+add-list-requires : tie.Need-add-list-requires
+add-list-requires c κs = search needs
 
 returns : tie.Need-returns
 returns c =
     let g = c .before .before .before .before .before .before in
-    slot-adds (stageIn (g .args .s)) (stageIn (c .add-file .result)) (g .args .slot) _ (slot-size g) (c .before .before .before .before .before .file-end .ensures) (c .add-file .ensures)
+    slot-adds (stageIn (g .args .s)) (stageIn (c .add-list .result)) (g .args .slot) _ (slot-size g) (c .before .before .before .before .before .file-end .ensures) (c .add-list .ensures)
 
 pub add-slot-spec : {M : Type 1} → statement M
 add-slot-spec =
     tie.close
     (tie.spec
     file-end-requires
-    sub-add-file
-    part-add-file-start
-    part-add-file-end
-    add-file-requires
+    sub-add-list
+    part-add-list-start
+    part-add-list-end
+    add-list-requires
     returns)

@@ -1,4 +1,4 @@
--- Each number is read at its place in the record; the version says where the action set stands.
+-- Each number is read at its place in the record; the version says where the action set stands, and whether there is a direction.
 use Rattle.wire.proofs.PutRows.{row-read}
 use Rattle.wire.proofs.Sizes.{size-two, set-within}
 use borrow.Author.Needs.{needs}
@@ -74,11 +74,23 @@ add-read1-2 c = search needs
 read1-requires-2 : tie.Need-read1-requires-2
 read1-requires-2 c κs = search needs
 
-direction-low-requires : tie.Need-direction-low-requires
-direction-low-requires c κs = search needs
+add-read1-3 : tie.Need-add-read1-3
+add-read1-3 c = search needs
 
-direction-high-requires : tie.Need-direction-high-requires
-direction-high-requires c κs = search needs
+read1-requires-3 : tie.Need-read1-requires-3
+read1-requires-3 c κs = search needs
+
+by-version-requires : tie.Need-by-version-requires
+by-version-requires c κs = search needs
+
+add-read1-4 : tie.Need-add-read1-4
+add-read1-4 c = search needs
+
+read1-requires-4 : tie.Need-read1-requires-4
+read1-requires-4 c κs = search needs
+
+by-version-requires-2 : tie.Need-by-version-requires-2
+by-version-requires-2 c κs = search needs
 
 record-size-requires : tie.Need-record-size-requires
 record-size-requires c κs = search needs
@@ -92,8 +104,8 @@ add-read2-5 c = search needs
 read2-requires-5 : tie.Need-read2-requires-5
 read2-requires-5 c κs = search set-within
 
-cast-t33 : tie.Need-cast-t33
-cast-t33 c = search needs
+cast-t37 : tie.Need-cast-t37
+cast-t37 c = search needs
 
 returns : tie.Need-returns
 returns c = search row-read
@@ -125,11 +137,15 @@ read-row-spec =
     read1-requires
     add-read1-2
     read1-requires-2
-    direction-low-requires
-    direction-high-requires
+    add-read1-3
+    read1-requires-3
+    by-version-requires
+    add-read1-4
+    read1-requires-4
+    by-version-requires-2
     record-size-requires
     sub-read2
     add-read2-5
     read2-requires-5
-    cast-t33
+    cast-t37
     returns)

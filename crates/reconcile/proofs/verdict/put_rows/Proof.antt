@@ -7,8 +7,8 @@ use lib.ListN.{length}
 use Rattle.policy.specs.steps.Rows.{rowSize}
 use Rattle.wire.specs.Format.{listLimit}
 use Rattle.reconcile.proofs.Beside.{Beside, beside-more, beside-all}
-use Rattle.reconcile.proofs.settle.put_rows.Statement.{statement}
-use Rattle.reconcile.proofs.settle.put_rows.Tie as tie
+use Rattle.reconcile.proofs.verdict.put_rows.Statement.{statement}
+use Rattle.reconcile.proofs.verdict.put_rows.Tie as tie
 
 abbrev Inv-loop : tie.InvT-loop
 Inv-loop n rows₀ entries i₀ rows i = (i ≤ n) × (length entries ≡ listLimit) × (length rows ≡ rowSize * listLimit) × Beside rows entries i
