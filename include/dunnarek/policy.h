@@ -18,7 +18,7 @@
  * length says; the buffer of policy_compare must not overlap a file.
  *
  * A thread with a stack of POLICY_STACK_SIZE bytes is enough for both calls. The most that was found
- * is 45,600 bytes for a comparison and 4,688 for a lookup, of which a thread that does nothing takes
+ * is 45,600 bytes for a comparison and 4,648 for a lookup, of which a thread that does nothing takes
  * 4,528; the frames of the deepest chain of calls add up to less than 62,000. The times below are of
  * one server's processor; docs/MEASUREMENTS.md has more.
  */
@@ -84,7 +84,7 @@ extern "C" {
  * POLICY_UNCAUGHT if none does or the six numbers are no header; 256 plus the refusal,
  * POLICY_MISSIZED to POLICY_CROSSED, for a file that is no list. Numbers are in the machine's own
  * byte order.
- * Each call checks the whole file before it looks: about 0.07 microseconds at 32 entries, 0.6 at 256.
+ * Each call checks the whole file before it looks: about 0.09 microseconds at 32 entries, 1 at 256.
  * It runs no instruction that divides.
  */
 uint32_t policy_lookup(const uint8_t *file, size_t file_len,
@@ -99,7 +99,7 @@ uint32_t policy_lookup(const uint8_t *file, size_t file_len,
  * least header where it doesn't, big-endian, is written to the first POLICY_HEADER_SIZE bytes of the
  * buffer if it has as many; a shorter buffer and every other byte keep their values, and so does the
  * whole buffer on every other answer.
- * Lists of 256 entries as gateways have them take 0.1 to 0.4 milliseconds, the worst known 41.
+ * Lists of 256 entries as gateways have them take 0.1 to 0.5 milliseconds, the worst known 61.
  */
 uint32_t policy_compare(const uint8_t *first, size_t first_len,
                         const uint8_t *second, size_t second_len,
