@@ -4,7 +4,7 @@ use crate::entry::{both_ways, file_in, Entry, Header, List, ALL, RECORD, VERSION
 use crate::generate::{
     any_list, box_near, cross_one, crowd, damaged, file_in_some_version, header_near,
     leave_directions, long_list, realistic_list, related_list, small_list, some_file, some_list,
-    some_party, some_ranking, some_sets, Filings, Sets, RISING,
+    some_parties, some_party, some_ranking, some_sets, Filings, Sets, RISING,
 };
 use crate::model::{catching, Bench, Refusal, LIST_LIMIT, LONGEST_FILE};
 use crate::random::Random;
@@ -181,10 +181,7 @@ impl Made<'_> {
     /// install.
     fn file_crowd(&mut self) {
         let lists = crowd(self.random);
-        let mut parties: Vec<u8> = (1..=8).collect();
-        while parties.len() > lists.len() {
-            parties.remove(self.random.below(parties.len() as u64) as usize);
-        }
+        let parties = some_parties(lists.len(), self.random);
         let mut filed: Vec<(u8, List)> = parties.into_iter().zip(lists).collect();
         self.random.shuffle(&mut filed);
         for (party, list) in filed {

@@ -327,6 +327,11 @@ fn body(shape: Shape, n: usize, random: &mut Random) -> Vec<Box6> {
     }
 }
 
+/// Everything but the last header.
+fn all_but_last() -> Vec<Box6> {
+    (0..FIELDS).map(|f| only(f, 0, LAST_HEADER[f] - 1)).collect()
+}
+
 fn closing_boxes(closing: Closing, n: usize, random: &mut Random) -> Vec<Box6> {
     match closing {
         Closing::Bare => vec![],
@@ -350,7 +355,7 @@ fn closing_boxes(closing: Closing, n: usize, random: &mut Random) -> Vec<Box6> {
                 b
             })
             .collect(),
-        Closing::Hole => (0..FIELDS).map(|f| only(f, 0, LAST_HEADER[f] - 1)).collect(),
+        Closing::Hole => all_but_last(),
         Closing::Headers => {
             let with_ports = WITH_PORTS.map(|p| only(PROTOCOL, p, p));
             [no_ports()].into_iter().chain(with_ports).collect()
@@ -965,6 +970,20 @@ pub fn crowd(random: &mut Random) -> Vec<List> {
     lists
 }
 
+/// Lists of all eight parties that clash at the last header, which the last of 32 entries catches in each:
+/// no conflict carries more.
+pub fn longest_conflict() -> Vec<List> {
+    let clashing = |own: u32| {
+        let mut boxes = all_but_last();
+        boxes.resize(31, boxes[0]);
+        let mut list: List =
+            boxes.into_iter().map(|selector| Entry { selector, actions: 1 }).collect();
+        list.push(Entry { selector: ALL, actions: 1 << own });
+        list
+    };
+    (0..8).map(clashing).collect()
+}
+
 fn filing(party: u8, bytes: &[u8], input: &mut Vec<u8>) {
     input.push(party);
     input.extend_from_slice(bytes);
@@ -1038,6 +1057,15 @@ impl Filings {
             _ => any_list(self.most as usize, self.sets, random),
         }
     }
+}
+
+/// So many of the eight parties, rising.
+pub fn some_parties(count: usize, random: &mut Random) -> Vec<u8> {
+    let mut parties: Vec<u8> = (1..=8).collect();
+    while parties.len() > count {
+        parties.remove(random.below(parties.len() as u64) as usize);
+    }
+    parties
 }
 
 /// One of the parties, now and then a number that is none's.

@@ -12,6 +12,7 @@ pub mod gateway;
 pub mod generate;
 pub mod merge;
 pub mod model;
+pub mod naming;
 pub mod page;
 pub mod points;
 pub mod process;

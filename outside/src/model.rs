@@ -1,4 +1,4 @@
-//! Document 01 once more, with Wishes 1, 2 and 4 of 02, written from their text for clarity, as the other
+//! Document 01 once more, with Wishes 1, 2, 4 and 5 of 02, written from their text for clarity, as the other
 //! side of the tests. It shares no algorithm with the product: what the product finds by cutting boxes is
 //! found here by walking the cells between all ends of ranges, field by field, in the order of headers.
 
@@ -10,7 +10,10 @@ use std::collections::{BTreeSet, HashSet};
 
 // ---------------------------------------------------------------- what is turned down
 
-#[derive(Clone, Copy, PartialEq, Eq, Debug)]
+/// A party's number, and that of an entry of its list as filed.
+pub type Named = (u8, usize);
+
+#[derive(Clone, PartialEq, Eq, Debug)]
 pub enum Refusal {
     Missized,
     Version,
@@ -21,7 +24,8 @@ pub enum Refusal {
     Vacant,
     Bare,
     Crowded,
-    Conflict(Header),
+    /// The header, and the entries that catch it in the lists in force, by rising party.
+    Conflict(Header, Vec<Named>),
     Narrow(usize),
     Ranking,
 }
@@ -39,7 +43,7 @@ impl Refusal {
             Refusal::Vacant => 7,
             Refusal::Bare => 8,
             Refusal::Crowded => 9,
-            Refusal::Conflict(_) => 10,
+            Refusal::Conflict(..) => 10,
             Refusal::Narrow(_) => 11,
             Refusal::Ranking => 12,
         }
@@ -382,14 +386,18 @@ pub enum Want {
     Differing(u16),
 }
 
+/// A header, and the number of the entry that catches it, if one does.
+pub type Found = (Header, Option<usize>);
+
 /// The least header of a box that the file's list treats in a wanted way.
-pub fn search(file: &[u8], within: &Box6, want: Want) -> Result<Option<Header>, Refusal> {
+pub fn search(file: &[u8], within: &Box6, want: Want) -> Result<Option<Found>, Refusal> {
     let list = read(file, LIST_LIMIT)?.entries;
-    Ok(least(within, &[&list], |c| match want {
+    let found = least(within, &[&list], |c| match want {
         Want::Uncaught => c[0].is_none(),
         Want::CaughtBy(i) => c[0] == Some(i),
         Want::Differing(set) => c[0].map(|i| list[i].actions) != Some(set),
-    }))
+    });
+    Ok(found.map(|header| (header, catching(&list, &header))))
 }
 
 /// The number of the entry that catches the header. The file's checks come first.
@@ -455,6 +463,14 @@ pub fn compare_number(first: &[u8], second: &[u8], buffer: &mut [u8]) -> u32 {
 
 // ---------------------------------------------------------------- merging
 
+/// A party's number and its list, as filed.
+pub type Filed<'a> = (u8, &'a [Entry]);
+
+/// Lists as those of parties 1, 2 and so on.
+pub fn numbered(lists: &[List]) -> Vec<Filed<'_>> {
+    (1..).zip(lists.iter().map(|list| &list[..])).collect()
+}
+
 fn common_part(a: &Box6, b: &Box6) -> Box6 {
     let mut r = *a;
     for f in 0..FIELDS {
@@ -464,14 +480,14 @@ fn common_part(a: &Box6, b: &Box6) -> Box6 {
     r
 }
 
-/// The entries of a list that catch a header.
-fn catching_entries(list: &[Entry]) -> List {
+/// The numbers of a list's entries that catch a header.
+pub fn catching_entries(list: &[Entry]) -> BTreeSet<usize> {
     let mut numbers = BTreeSet::new();
     walk(&ALL, &[list], &mut |_, c| {
         numbers.extend(c[0]);
         false
     });
-    numbers.into_iter().map(|i| list[i]).collect()
+    numbers
 }
 
 /// Rules 1 and 2 for one more list. A header matches the pair of two entries where it matches
@@ -498,7 +514,7 @@ fn crossed_with(working: &[Entry], next: &[Entry]) -> Option<List> {
 /// Rules 1 and 2: the working list after the last party.
 pub fn working_list(lists: &[&[Entry]]) -> Result<List, Refusal> {
     let (first, others) = lists.split_first().ok_or(Refusal::Bare)?;
-    let mut working = catching_entries(first);
+    let mut working: List = catching_entries(first).into_iter().map(|i| first[i]).collect();
     for next in others {
         working = crossed_with(&working, next).ok_or(Refusal::Crowded)?;
     }
@@ -533,14 +549,21 @@ fn struck(mut list: List) -> List {
     list
 }
 
-/// Merging of covering lists: rules 1 to 4.
-pub fn merged_list(lists: &[&[Entry]]) -> Result<List, Refusal> {
-    let list = working_list(lists)?;
-    let conflict = least_conflict(lists);
+/// The entry that catches a header in each party's list; they are covering.
+fn named(filed: &[Filed], h: &Header) -> Vec<Named> {
+    let name = |(party, list): &Filed| (*party, catching(list, h).expect("a covering list"));
+    filed.iter().map(name).collect()
+}
+
+/// Merging of covering lists, in the parties' order: rules 1 to 4.
+pub fn merged_list(filed: &[Filed]) -> Result<List, Refusal> {
+    let lists: Vec<&[Entry]> = filed.iter().map(|(_, list)| *list).collect();
+    let list = working_list(&lists)?;
+    let conflict = least_conflict(&lists);
     // Rule 3 and demand 3 say the same in two ways.
     assert_eq!(conflict.is_some(), list.iter().any(|e| e.actions == 0));
     if let Some(header) = conflict {
-        return Err(Refusal::Conflict(header));
+        return Err(Refusal::Conflict(header, named(filed, &header)));
     }
     Ok(struck(list))
 }
@@ -567,9 +590,9 @@ fn best_alone(set: u16, ranking: &[u8]) -> u16 {
 }
 
 /// Installing of covering lists: merging, one action of each set, and rule 4 once more.
-pub fn installed_list(lists: &[&[Entry]], ranking: &[u8]) -> Result<List, Refusal> {
+pub fn installed_list(filed: &[Filed], ranking: &[u8]) -> Result<List, Refusal> {
     check_ranking(ranking)?;
-    let mut list = merged_list(lists)?;
+    let mut list = merged_list(filed)?;
     list.iter_mut().for_each(|e| e.actions = best_alone(e.actions, ranking));
     Ok(struck(list))
 }
@@ -605,8 +628,9 @@ impl Bench {
     }
 
     /// The lists in force, in the parties' order.
-    fn in_force(&self) -> Vec<&[Entry]> {
-        self.slots.iter().flatten().map(|list| &list.entries[..]).collect()
+    pub fn in_force(&self) -> Vec<Filed<'_>> {
+        let slots = (1..).zip(&self.slots);
+        slots.filter_map(|(party, slot)| Some((party, &slot.as_ref()?.entries[..]))).collect()
     }
 
     /// Their versions.
@@ -637,8 +661,12 @@ fn refused_line(party: u8, refusal: &Refusal) -> String {
     let number = refusal.number();
     match refusal {
         Refusal::Crossed(entry) => format!("refused {party} {number} {entry}\n"),
-        Refusal::Gap(header) | Refusal::Conflict(header) => {
+        Refusal::Gap(header) => {
             format!("refused {party} {number} {}\n", hexadecimal(&header_of(header)))
+        }
+        Refusal::Conflict(header, named) => {
+            let named: String = named.iter().map(|(p, entry)| format!(" {p}:{entry}")).collect();
+            format!("refused {party} {number} {}{named}\n", hexadecimal(&header_of(header)))
         }
         _ => format!("refused {party} {number}\n"),
     }

@@ -1,11 +1,11 @@
-//! Rules 1 to 4 of Merging, and installing, taken word by word, by walking a small header space point
-//! by point.
+//! Rules 1 to 4 of Merging, installing, and whose entries clash, taken word by word, by walking a small
+//! header space point by point.
 //! A small list's ranges are made of four parts of each field, and of the two directions. So one number of
 //! each part tells all headers apart that such lists can tell apart; of protocols, one with ports and one
 //! without.
 
 use crate::entry::{is_header, Box6, Entry, Header, List, FIELDS, TOP};
-use crate::model::{allowed, catching, is_crossed, Refusal};
+use crate::model::{allowed, catching, is_crossed, Filed, Named, Refusal};
 
 /// Where the parts of each field start. The first protocols have no ports, 6 has, and the last two
 /// parts have protocols of both kinds.
@@ -88,9 +88,28 @@ fn cross(p: &[Entry], q: &[Entry]) -> List {
 }
 
 /// The actions that all lists allow a header; they are covering.
-pub fn common_actions(lists: &[List], h: &Header) -> u16 {
-    let sets = lists.iter().map(|list| allowed(list, h).unwrap());
+pub fn common_actions(filed: &[Filed], h: &Header) -> u16 {
+    let sets = filed.iter().map(|(_, list)| allowed(list, h).unwrap());
     sets.fold(0xffff, |common, set| common & set)
+}
+
+/// The number of the entry that matches a point while none before it does. The model's first match is
+/// not asked.
+pub fn catcher(list: &[Entry], h: &Header) -> Option<usize> {
+    let is_in = |s: &Box6| (0..FIELDS).all(|f| (s.low[f]..=s.high[f]).contains(&h[f]));
+    let mut number = None;
+    for (i, e) in list.iter().enumerate().rev() {
+        if is_in(&e.selector) {
+            number = Some(i);
+        }
+    }
+    number
+}
+
+/// The entry that catches a point in the list of each party that has one, party by party.
+fn catchers(filed: &[Filed], h: &Header) -> Vec<Named> {
+    let of_party = |party: u8| filed.iter().find(|(filing, _)| *filing == party);
+    (1..=8).filter_map(|party| Some((party, catcher(of_party(party)?.1, h)?))).collect()
 }
 
 /// Whether a list without its entry `k` allows every header the same.
@@ -111,18 +130,19 @@ pub fn struck(mut list: List, points: &[Header]) -> List {
 }
 
 /// What merging the lists gives; they are covering.
-pub fn merged(lists: &[List], points: &[Header]) -> Result<List, Refusal> {
-    let (first, others) = lists.split_first().ok_or(Refusal::Bare)?;
-    let mut working = drop_idle(first.clone(), points);
-    for next in others {
+pub fn merged(filed: &[Filed], points: &[Header]) -> Result<List, Refusal> {
+    let ((_, first), others) = filed.split_first().ok_or(Refusal::Bare)?;
+    let mut working = drop_idle(first.to_vec(), points);
+    for (_, next) in others {
         working = drop_idle(cross(&working, next), points);
         if working.len() > 256 {
             return Err(Refusal::Crowded);
         }
     }
     if working.iter().any(|e| e.actions == 0) {
-        let header = points.iter().copied().find(|h| common_actions(lists, h) == 0);
-        return Err(Refusal::Conflict(header.expect("an entry without actions catches a header")));
+        let header = points.iter().copied().find(|h| common_actions(filed, h) == 0);
+        let header = header.expect("an entry without actions catches a header");
+        return Err(Refusal::Conflict(header, catchers(filed, &header)));
     }
     Ok(struck(working, points))
 }

@@ -10,7 +10,7 @@
 //! is not in this form ends the output with the line `bad`.
 
 use crate::entry::{box_bytes, header_bytes, records, Box6, Header, List, BOX, HEADER, RECORD};
-use crate::model::{self, Bench, Refusal, Want, LIST_LIMIT};
+use crate::model::{self, Bench, Found, Refusal, Want, LIST_LIMIT};
 use crate::report::hexadecimal;
 use std::fmt;
 
@@ -229,16 +229,20 @@ fn bytes_after(line: String, bytes: &[u8]) -> String {
     format!("{line} = {}", hexadecimal(bytes))
 }
 
-fn header_values(header: Header) -> Vec<usize> {
+fn header_values(header: &Header) -> Vec<usize> {
     header.map(|n| n as usize).to_vec()
 }
 
 /// The refusal's number, and what it carries.
 fn refusal_values(refusal: &Refusal) -> Vec<usize> {
-    let carried = match *refusal {
-        Refusal::Crossed(entry) => vec![entry],
-        Refusal::Gap(header) | Refusal::Conflict(header) => header_values(header),
-        Refusal::Narrow(length) => vec![length],
+    let carried = match refusal {
+        Refusal::Crossed(entry) => vec![*entry],
+        Refusal::Gap(header) => header_values(header),
+        Refusal::Conflict(header, named) => {
+            let named = named.iter().flat_map(|(party, entry)| [*party as usize, *entry]);
+            header_values(header).into_iter().chain(named).collect()
+        }
+        Refusal::Narrow(length) => vec![*length],
         _ => vec![],
     };
     [vec![refusal.number() as usize], carried].concat()
@@ -268,7 +272,7 @@ fn part_line(file: &[u8], header: &Header) -> String {
 fn compare_line(first: &[u8], second: &[u8]) -> String {
     match model::compare(first, second) {
         Ok(None) => line("ok", &[]),
-        Ok(Some(header)) => line("ok", &header_values(header)),
+        Ok(Some(header)) => line("ok", &header_values(&header)),
         Err((file, refusal)) => {
             line("no", &[vec![file as usize], refusal_values(&refusal)].concat())
         }
@@ -281,7 +285,12 @@ fn search(file: &[u8], within: &Box6, wanted: &Wanted) -> Answer {
         1 => Want::CaughtBy(wanted.number as usize),
         _ => Want::Differing(wanted.number),
     };
-    Ok(model::search(file, within, want)?.map(header_values).unwrap_or_default())
+    Ok(model::search(file, within, want)?.map(found_values).unwrap_or_default())
+}
+
+/// A header, then the entry that catches it.
+fn found_values((header, entry): Found) -> Vec<usize> {
+    [header_values(&header), caught(entry)].concat()
 }
 
 /// An entry count and a file's length.

@@ -9,9 +9,10 @@ use mathlib.Core.Option.{Option, none, some}
 use lib.Dec.{eqb}
 use lib.ListN.{length, getD, set, replicate, List·getD-map}
 use borrow.Author.Tests.{eq-eqb, ne-eqb}
-use Rattle.policy.specs.declared.entry.Entry.{Entry}
 use Rattle.policy.specs.declared.refusal.Refusal.{Refusal}
-use Rattle.policy.specs.declared.refusal.Refusal.the-variants.{Party, Vacant, Ranking}
+use Rattle.policy.specs.declared.header.Header.{Header}
+use Rattle.policy.specs.declared.header.Found.the-variants.{At}
+use Rattle.policy.specs.declared.refusal.Refusal.the-variants.{Party, Vacant, Conflict, Ranking}
 use Rattle.policy.specs.Header.{headers}
 use Rattle.policy.specs.Ranking.{isRanking}
 use Rattle.policy.specs.Refusals.{Answer, refusal, accepted, isAccepted, refuse}
@@ -27,22 +28,25 @@ use Rattle.region.specs.steps.Covering.{listChecksOf}
 use Rattle.region.proofs.ListChecks.{good-passes, passes-tell}
 use Rattle.reconcile.specs.declared.ending.Merged.{Merged}
 use Rattle.reconcile.specs.declared.ending.Merged.the-variants as ending
-use Rattle.reconcile.specs.Rules.{Working, Merging, refused, mergeOf}
+use Rattle.reconcile.specs.Rules.{Working, conflictOf, Merging, refused, mergeOf}
 use Rattle.reconcile.specs.Installing.{installed}
 use Rattle.reconcile.specs.steps.Stage.{ended}
 use Rattle.reconcile.specs.Ending as end
 use Rattle.reconcile.specs.steps.Ending as said
 use Rattle.reconcile.proofs.Staging.{stages-end}
+use Rattle.reconcile.proofs.Installing.{refused-tells}
 use Rattle.bench.specs.declared.slots.Slot.{Slot}
 use Rattle.bench.specs.declared.calls.Bench.{Bench}
 use Rattle.bench.specs.declared.calls.FileAnswer.{FileAnswer}
 use Rattle.bench.specs.declared.calls.FileAnswer.the-variants as file
 use Rattle.bench.specs.declared.calls.WithdrawAnswer.{WithdrawAnswer}
 use Rattle.bench.specs.declared.calls.WithdrawAnswer.the-variants as withdraw
-use Rattle.bench.specs.declared.calls.MergeAnswer.{MergeAnswer}
 use Rattle.bench.specs.declared.calls.MergeAnswer.the-variants as merge
+use Rattle.bench.specs.declared.calls.MergeResult.{MergeResult}
 use Rattle.bench.specs.Book.{parties, Book, inForce}
-use Rattle.bench.specs.Answers.{filed, badParty, filingOf, withdrew, isVacant, withdrawalOf, mergedAs, mergingOf, installingOf}
+use Rattle.bench.specs.declared.named.Named.{Named}
+use Rattle.bench.specs.Answers.{filed, badParty, filingOf, withdrew, isVacant, withdrawalOf, also, namedFrom, mergedAs, naming, mergingOf, installingOf}
+use Rattle.bench.specs.steps.Naming.{saidBy, Answers, ResultOf}
 use Rattle.wire.proofs.Sizes.{records-most}
 use Rattle.bench.specs.Held.{slotSize, vacantSlot, slotWith, listInSlot, bookOf, openBench, withSlot, slotList}
 use Rattle.wire.specs.steps.Fits.{AllFit}
@@ -51,7 +55,8 @@ use Rattle.bench.specs.Demand3.{Demand3}
 use Rattle.bench.specs.Installing.{Installing}
 use Rattle.bench.specs.steps.Staged.{EachSlot, Staged}
 use Rattle.bench.proofs.Trace.{bench-more, book-after, all-covering, in-force}
-use Rattle.bench.proofs.Demand3.{demand-3}
+use Rattle.bench.proofs.Demand3.{conflict-of, told-refused, demand-3}
+use Rattle.bench.proofs.Naming.{said-beside}
 use Rattle.bench.proofs.Installing.{no-ranking-keeps, installs}
 use Rattle.bench.proofs.Fitting.{AllListsFit, reads-back}
 use Rattle.bench.proofs.Slotting.{noSlot}
@@ -162,26 +167,26 @@ module _ (b : Bench) (p : ℕ) where
 
 -- ---- merge
 
--- after any list of calls that leads to b, a call that leaves the bench leads to it again, and what it answers keeps to P with the lists in force
-abbrev Kept : Bench → Call → (List (List Entry) → Type 0) → Type 0
-Kept b c P = (cs : List Call) → benchAfter cs ≡ b → (benchAfter (cs ++ (c ∷ [])) ≡ b) × P (inForce (bookAfter cs))
+-- after any list of calls that leads to b, a call leads to n, and what it answers keeps to P with the book
+abbrev Kept : Bench → Call → Bench → (Book → Type 0) → Type 0
+Kept b c n P = (cs : List Call) → benchAfter cs ≡ b → (benchAfter (cs ++ (c ∷ [])) ≡ n) × P (bookAfter cs)
 
-abbrev pub MergedRight : Bench → List ℕ → MergeAnswer → List ℕ → Type 0
-MergedRight b buffer a after =
-    (_≡_ {A = Result} (mergedAs a, b, after) (resultOf b (merging buffer)))
-    × Kept b (merging buffer) (λ ps. Demand3 ps buffer (mergedAs a) after)
+abbrev pub MergedRight : Bench → List ℕ → MergeResult → List ℕ → Type 0
+MergedRight b buffer r after =
+    (_≡_ {A = Result} (mergedAs (r .answer) (r .named), r .bench, after) (resultOf b (merging buffer)))
+    × Kept b (merging buffer) (r .bench) (λ k. Demand3 k buffer (mergedAs (r .answer) (r .named)) after)
 
-abbrev pub InstalledRight : Bench → List ℕ → List ℕ → MergeAnswer → List ℕ → Type 0
-InstalledRight b ranking buffer a after =
-    (_≡_ {A = Result} (mergedAs a, b, after) (resultOf b (installing ranking buffer)))
-    × Kept b (installing ranking buffer) (λ ps. Installing ranking ps buffer (mergedAs a) after)
+abbrev pub InstalledRight : Bench → List ℕ → List ℕ → MergeResult → List ℕ → Type 0
+InstalledRight b ranking buffer r after =
+    (_≡_ {A = Result} (mergedAs (r .answer) (r .named), r .bench, after) (resultOf b (installing ranking buffer)))
+    × Kept b (installing ranking buffer) (r .bench) (λ k. Installing ranking k buffer (mergedAs (r .answer) (r .named)) after)
 
 -- the answer for what a merging came to
-pub answer-done : (x : Merged) (n l : ℕ) → x ≡ ending.Done n l → (b : List ℕ) → _≡_ {A = Answer × List ℕ} (mergedAs (merge.Merged n l), b) (said.ending x b)
-answer-done x n l e b = ap (λ (y : Merged). said.ending y b) (sym e)
+pub answer-done : (x : Merged) (n l : ℕ) → x ≡ ending.Done n l → Answers x (merge.Merged n l)
+answer-done x n l e ns = ap (λ (y : Merged). also (saidBy y) (namedFrom 1 ns)) (sym e)
 
-pub answer-refused : (x : Merged) (r : Refusal) → x ≡ ending.Refused r → (b : List ℕ) → _≡_ {A = Answer × List ℕ} (mergedAs (merge.Refused r), b) (said.ending x b)
-answer-refused x r e b = ap (λ (y : Merged). said.ending y b) (sym e)
+pub answer-refused : (x : Merged) (r : Refusal) → x ≡ ending.Refused r → Answers x (merge.Refused r)
+answer-refused x r e ns = ap (λ (y : Merged). also (saidBy y) (namedFrom 1 ns)) (sym e)
 
 -- the test of the ranking
 pub tested : (ranking : List ℕ) (t : Bool) → t ≡ isRanking ranking → not t ≡ false → isRanking ranking ≡ true
@@ -192,49 +197,61 @@ book-is : (b : Bench) (cs : List Call) → benchAfter cs ≡ b → bookOf b ≡ 
 book-is b cs c = sym (ap bookOf c) ∙ book-after cs
 
 -- a call that leaves the bench, and whose answer and buffer are `of` the book: what is shown of these for the book is shown of the call
-module _ (b : Bench) (a : MergeAnswer) (after : List ℕ) (call : Call) (of : Book → Answer × List ℕ) (P : List (List Entry) → Answer → List ℕ → Type 0)
-    (step : resultOf b call ≡ (of (bookOf b) .0, b, of (bookOf b) .1)) (q : _≡_ {A = Answer × List ℕ} (mergedAs a, after) (of (bookOf b)))
-    (shown : (cs : List Call) → benchAfter cs ≡ b → P (inForce (bookAfter cs)) (of (bookAfter cs) .0) (of (bookAfter cs) .1)) where
-  right : (_≡_ {A = Result} (mergedAs a, b, after) (resultOf b call)) × Kept b call (λ ps. P ps (mergedAs a) after)
+module _ (b n : Bench) (a : Answer) (after : List ℕ) (call : Call) (unchanged : n ≡ b) (of : Book → Answer × List ℕ) (P : Book → Answer → List ℕ → Type 0)
+    (step : resultOf b call ≡ (of (bookOf b) .0, b, of (bookOf b) .1)) (q : _≡_ {A = Answer × List ℕ} (a, after) (of (bookOf b)))
+    (shown : (cs : List Call) → benchAfter cs ≡ b → P (bookAfter cs) (of (bookAfter cs) .0) (of (bookAfter cs) .1)) where
+  right : (_≡_ {A = Result} (a, n, after) (resultOf b call)) × Kept b call n (λ k. P k a after)
   right = (
-    (λ i. (q i .0, b, q i .1)) ∙ sym step,
+    (λ i. (q i .0, unchanged i, q i .1)) ∙ sym step,
     λ cs c. (
-      leads-on b b call (sym (ap (λ (r : Result). r .1) step)) cs c,
-      subst (λ (y : Answer × List ℕ). P (inForce (bookAfter cs)) (y .0) (y .1)) (sym (q ∙ ap of (book-is b cs c))) (shown cs c),
+      leads-on b n call (unchanged ∙ sym (ap (λ (r : Result). r .1) step)) cs c,
+      subst (λ (y : Answer × List ℕ). P (bookAfter cs) (y .0) (y .1)) (sym (q ∙ ap of (book-is b cs c))) (shown cs c),
     ),
   )
 
-module _ (b : Bench) (buffer after : List ℕ) (w : Option Working) (e : Staged (bookOf b) w) (x : Merged) (a : MergeAnswer)
-    (told : (c : List ℕ) → _≡_ {A = Answer × List ℕ} (mergedAs a, c) (said.ending x c)) where
+module _ (b : Bench) (buffer after : List ℕ) (w : Option Working) (e : Staged (bookOf b) w) (x : Merged) (r : MergeResult) (of : ResultOf b x r) where
   merges-as : ended headers w ≡ mergeOf headers (inForce (bookOf b))
   merges-as = stages-end (inForce (bookOf b)) w (e .0)
 
   lists-fit : (cs : List Call) → benchAfter cs ≡ b → AllListsFit (inForce (bookAfter cs))
   lists-fit cs c = in-force AllFit (bookAfter cs) (subst (EachSlot AllFit) (book-is b cs c) (e .1))
 
-  pub merge-right : said.ending x after ≡ end.endingOf (ended headers w) buffer → MergedRight b buffer a after
+  -- the answer names what it is asked to, if the merging y is refused for conflict only where that of the book is
+  names-asked : (y : Merging) → ((h : Header) → y ≡ refused (Conflict h) → mergeOf headers (inForce (bookOf b)) ≡ refused (Conflict h))
+      → said.ending x after ≡ end.endingOf y buffer → _≡_ {A = Answer × List ℕ} (mergedAs (r .answer) (r .named), after) (naming (bookOf b) (end.endingOf y buffer))
+  names-asked y only f =
+      ap (λ (a : Answer). (a, after)) (of .answers (r .named) ∙ ap (also (saidBy x)) (of .names found))
+      ∙ ap (naming (bookOf b)) (said-beside x after ∙ f)
+    where
+      found : (h : Header) → x ≡ ending.Refused (Conflict h) → conflictOf headers (inForce (bookOf b)) ≡ At h
+      found h q =
+          conflict-of (inForce (bookOf b)) h
+          (only h (told-refused buffer y (Conflict h) (sym (ap (λ (y : Answer × List ℕ). y .0) f) ∙ ap (λ (m : Merged). said.ending m after .0) q) λ z. omega arith))
+
+  pub merge-right : said.ending x after ≡ end.endingOf (ended headers w) buffer → MergedRight b buffer r after
   merge-right f =
-      right b a after (merging buffer) (λ k. mergingOf k buffer) (λ ps. Demand3 ps buffer) refl
-      (told after ∙ f ∙ ap (λ (y : Merging). end.endingOf y buffer) merges-as)
-      λ cs c. demand-3 buffer (inForce (bookAfter cs)) (all-covering cs) (reads-back (inForce (bookAfter cs)) (lists-fit cs c))
+      right b (r .bench) (mergedAs (r .answer) (r .named)) after (merging buffer) (of .same) (λ k. mergingOf k buffer) (λ k. Demand3 k buffer) refl
+      (names-asked (mergeOf headers (inForce (bookOf b))) (λ h q. q) (f ∙ ap (λ (y : Merging). end.endingOf y buffer) merges-as))
+      λ cs c. demand-3 (bookAfter cs) buffer (all-covering cs) (reads-back (inForce (bookAfter cs)) (lists-fit cs c))
 
   pub install-right : (ranking : List ℕ) → isRanking ranking ≡ true
-      → said.ending x after ≡ end.endingOf (installed headers ranking (ended headers w)) buffer → InstalledRight b ranking buffer a after
-  install-right ranking r f =
-      right b a after (installing ranking buffer) (λ k. installingOf k ranking buffer) (λ ps. Installing ranking ps buffer) refl
-      (told after
-      ∙ f
-      ∙ ap (λ (y : Merging). end.endingOf (installed headers ranking y) buffer) merges-as
-      ∙ ap (λ (u : Bool). end.endingOf (cond u (installed headers ranking (mergeOf headers (inForce (bookOf b)))) (refused Ranking)) buffer) (sym r))
-      λ cs c. installs ranking buffer (inForce (bookAfter cs)) (all-covering cs) (lists-fit cs c)
+      → said.ending x after ≡ end.endingOf (installed headers ranking (ended headers w)) buffer → InstalledRight b ranking buffer r after
+  install-right ranking is f =
+      right b (r .bench) (mergedAs (r .answer) (r .named)) after (installing ranking buffer) (of .same) (λ k. installingOf k ranking buffer) (λ k. Installing ranking k buffer) refl
+      (names-asked (installed headers ranking (mergeOf headers (inForce (bookOf b)))) (λ h q. refused-tells headers ranking (mergeOf headers (inForce (bookOf b))) (Conflict h) q)
+      (f ∙ ap (λ (y : Merging). end.endingOf (installed headers ranking y) buffer) merges-as)
+      ∙ ap (λ (u : Bool). naming (bookOf b) (end.endingOf (cond u (installed headers ranking (mergeOf headers (inForce (bookOf b)))) (refused Ranking)) buffer)) (sym is))
+      λ cs c. installs ranking (bookAfter cs) buffer (all-covering cs) (lists-fit cs c)
 
 -- ---- install: no ranking
 
-pub install-refused : (b : Bench) (ranking buffer : List ℕ) (t : Bool) → t ≡ isRanking ranking → not t ≡ true → InstalledRight b ranking buffer (merge.Refused Ranking) buffer
-install-refused b ranking buffer t r n = (
-  ap (λ (u : Bool). let y = end.endingOf (cond u (installed headers ranking (mergeOf headers (inForce (bookOf b)))) (refused Ranking)) buffer in (y .0, b, y .1)) (sym no),
-  λ cs c. (leads-on b b (installing ranking buffer) refl cs c, no-ranking-keeps ranking buffer (inForce (bookAfter cs)) no),
-)
+pub install-refused : (b : Bench) (ranking buffer : List ℕ) (t : Bool) (ns : List Named) → t ≡ isRanking ranking → not t ≡ true → namedFrom 1 ns ≡ [] → InstalledRight b ranking buffer (record { bench = b; answer = merge.Refused Ranking; named = ns }) buffer
+install-refused b ranking buffer t ns r n empty =
+    right b b (mergedAs (merge.Refused Ranking) ns) buffer (installing ranking buffer) refl (λ k. installingOf k ranking buffer) (λ k. Installing ranking k buffer) refl
+    (ap (λ (vs : List ℕ). (also (refusal Ranking) vs, buffer)) empty
+    ∙ ap (λ (u : Bool). naming (bookOf b) (end.endingOf (cond u (installed headers ranking (mergeOf headers (inForce (bookOf b)))) (refused Ranking)) buffer)) (sym no))
+    λ cs c. subst (λ (u : Bool). let y = naming (bookAfter cs) (end.endingOf (cond u (installed headers ranking (mergeOf headers (inForce (bookAfter cs)))) (refused Ranking)) buffer) in Installing ranking (bookAfter cs) buffer (y .0) (y .1)) (sym no)
+    (no-ranking-keeps ranking (bookAfter cs) buffer no)
   where
     no : isRanking ranking ≡ false
     no = sym r ∙ not-true {b = t} n

@@ -44,15 +44,15 @@ all-fit calls earlier later c a e = all-in-force-of AllFit (λ p s b f. entries-
 
 -- demand 3: every merging in every list of calls keeps to it, for the book that 01 reckons from the calls before it
 pub every-merging : (calls earlier later : List Call) (buffer : List ℕ) → AllBytes calls → calls ≡ earlier ++ merging buffer ∷ later
-    → Demand3 (inForce (bookAfter earlier)) buffer (answerTo (benchAfter earlier) (merging buffer)) (lentAfter (benchAfter earlier) (merging buffer))
+    → Demand3 (bookAfter earlier) buffer (answerTo (benchAfter earlier) (merging buffer)) (lentAfter (benchAfter earlier) (merging buffer))
 every-merging calls earlier later buffer a e =
-    subst (λ (k : Book). Demand3 (inForce (bookAfter earlier)) buffer (mergingOf k buffer .0) (mergingOf k buffer .1)) (sym (book-after earlier))
-    (demand-3 buffer (inForce (bookAfter earlier)) (all-covering earlier)
+    subst (λ (k : Book). Demand3 (bookAfter earlier) buffer (mergingOf k buffer .0) (mergingOf k buffer .1)) (sym (book-after earlier))
+    (demand-3 (bookAfter earlier) buffer (all-covering earlier)
     (reads-back (inForce (bookAfter earlier)) (all-fit calls earlier later (merging buffer) a e)))
 
 -- and every installing to what 02 promises of it
 pub every-installing : (calls earlier later : List Call) (ranking buffer : List ℕ) → AllBytes calls → calls ≡ earlier ++ installing ranking buffer ∷ later
-    → Installing ranking (inForce (bookAfter earlier)) buffer (answerTo (benchAfter earlier) (installing ranking buffer)) (lentAfter (benchAfter earlier) (installing ranking buffer))
+    → Installing ranking (bookAfter earlier) buffer (answerTo (benchAfter earlier) (installing ranking buffer)) (lentAfter (benchAfter earlier) (installing ranking buffer))
 every-installing calls earlier later ranking buffer a e =
-    subst (λ (k : Book). Installing ranking (inForce (bookAfter earlier)) buffer (installingOf k ranking buffer .0) (installingOf k ranking buffer .1)) (sym (book-after earlier))
-    (installs ranking buffer (inForce (bookAfter earlier)) (all-covering earlier) (all-fit calls earlier later (installing ranking buffer) a e))
+    subst (λ (k : Book). Installing ranking (bookAfter earlier) buffer (installingOf k ranking buffer .0) (installingOf k ranking buffer .1)) (sym (book-after earlier))
+    (installs ranking (bookAfter earlier) buffer (all-covering earlier) (all-fit calls earlier later (installing ranking buffer) a e))

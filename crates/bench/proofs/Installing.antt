@@ -12,6 +12,7 @@ use Rattle.policy.specs.declared.refusal.Refusal.the-variants.{Bare, Conflict, 
 use Rattle.policy.specs.Header.{among, headers}
 use Rattle.policy.specs.Ranking.{isRanking, only}
 use Rattle.policy.specs.Policy.{Allowed, actions, uncaught, allowed, isCaught}
+use Rattle.policy.specs.Refusals.{Answer, refusal}
 use Rattle.policy.proofs.Bool.{clash}
 use Rattle.policy.proofs.Refusals.{refusal-clash}
 use Rattle.wire.specs.Format.{mergedVersion, listIn, fileOf}
@@ -22,12 +23,14 @@ use Rattle.reconcile.specs.Rules.{permits, commonActions, struck, Merging, refu
 use Rattle.reconcile.specs.Installing.{withBest, installed, installOf}
 use Rattle.reconcile.specs.Ending.{answerOf, fileFor}
 use Rattle.reconcile.proofs.Common.{common-permits}
-use Rattle.reconcile.proofs.Merging.{merging-cases, merged-covers, merged-acts, merged-allows, conflict-tells, conflict-made}
+use Rattle.reconcile.proofs.Merging.{merging-cases, merged-covers, merged-acts, merged-allows, Conflicts, conflict-tells, conflict-made}
 use Rattle.reconcile.proofs.Installing.{best-of-some, bestAllowed, installed-allows, installed-covers, installed-irredundant, installed-tells, refused-tells}
 use Rattle.bench.specs.Demand3.{Accepted}
-use Rattle.bench.specs.Installing.{BestCommon, InstalledList, Installing}
+use Rattle.bench.specs.Book.{Book, inForce}
+use Rattle.bench.specs.Answers.{also, conflictAnswer, entriesFor, installingOf}
+use Rattle.bench.specs.Installing.{BestCommon, InstalledList, Keeps, Installing}
 use Rattle.bench.proofs.Fitting.{AllListsFit, ReadsBack, merged-fit, allowed-fits, installed-reads-back}
-use Rattle.bench.proofs.Demand3.{shows-needed, conflict-least, least-conflicts, merges-when, told-refused, told-accepted, left-alone, written, read-again}
+use Rattle.bench.proofs.Demand3.{shows-needed, conflict-least, least-conflicts, merges-when, left-alone, read-again, told-conflict, told-other, told-written, written-plainly, conflict-answer, conflict-evidence}
 
 -- ---- the installed list
 
@@ -72,47 +75,55 @@ never-ranking ranking ps e =
     merging-cases headers ps (λ x. x ≡ refused Ranking → ⊥) (λ q. let z : _≡_ {A = ℕ} 0 1 = cc in omega arith) (λ q. let z : _≡_ {A = ℕ} 0 1 = cc in omega arith)
     (λ h q. let z : _≡_ {A = ℕ} 0 1 = cc in omega arith) (λ m q. let z : _≡_ {A = ℕ} 0 1 = cc in omega arith) (refused-tells headers ranking (mergeOf headers ps) Ranking e)
 
-module _ (ranking buffer : List ℕ) where
+module _ (ranking : List ℕ) (k : Book) (buffer : List ℕ) where
   -- what is said of an installing that the rules bring to x
-  abbrev Keeps : List (List Entry) → Merging → Type 0
-  Keeps ps x = Installing ranking ps buffer (answerOf x buffer) (ifAccepted (answerOf x buffer) (placed (fileFor x) buffer) buffer)
+  abbrev Kept : List (List Entry) → Merging → Type 0
+  Kept ps x = Keeps ranking k ps buffer (also (answerOf x buffer) (entriesFor k (answerOf x buffer))) (ifAccepted (answerOf x buffer) (placed (fileFor x) buffer) buffer)
 
-  pub no-ranking-keeps : (ps : List (List Entry)) → isRanking ranking ≡ false → Keeps ps (refused Ranking)
-  no-ranking-keeps ps n = record {
+  no-ranking-kept : (ps : List (List Entry)) → isRanking ranking ≡ false → Kept ps (refused Ranking)
+  no-ranking-kept ps n = record {
     no-ranking = (λ e. n, λ e. refl);
     conflict-named = λ r. clash r n;
+    conflict-shown = λ h e. absurd (let z : _≡_ {A = ℕ} 12 10 = ap (λ (a : Answer). a .number) e in omega arith);
     otherwise = λ r. clash r n;
     installed-list = λ i l e. refusal-clash Ranking (i ∷ l ∷ []) e;
     refused = λ e. refl;
   }
 
-  with-ranking : (ps : List (List Entry)) → AllCovering headers ps → AllListsFit ps → (r : isRanking ranking ≡ true) → installOf headers ranking ps ≡ installed headers ranking (mergeOf headers ps)
-      → Keeps ps (installed headers ranking (mergeOf headers ps))
-  with-ranking [] covering fit r q = record {
-    no-ranking = (λ e. absurd (never-ranking ranking [] (told-refused buffer (refused Bare) Ranking e λ z. omega arith)), λ n. clash r n);
+  with-ranking : (ps : List (List Entry)) → inForce k ≡ ps → AllCovering headers ps → AllListsFit ps → (r : isRanking ranking ≡ true) → installOf headers ranking ps ≡ installed headers ranking (mergeOf headers ps)
+      → Kept ps (installed headers ranking (mergeOf headers ps))
+  with-ranking [] is covering fit r q = record {
+    no-ranking = (λ e. absurd (never-ranking ranking [] (told-other k buffer (refused Bare) Ranking refl e λ z. omega arith)), λ n. clash r n);
     conflict-named = λ r h within. absurd within;
+    conflict-shown = λ h e. absurd (let z : _≡_ {A = ℕ} 8 10 = ap (λ (a : Answer). a .number) e in omega arith);
     otherwise = λ r within. absurd within;
     installed-list = λ i l e. refusal-clash Bare (i ∷ l ∷ []) e;
     refused = λ e. refl;
   }
-  with-ranking (p ∷ ps) covering fit r q = record {
-    no-ranking = (λ e. absurd (never-ranking ranking (p ∷ ps) (told-refused buffer x Ranking e λ z. omega arith)), λ n. clash r n);
-    conflict-named = λ t h within. (
-      λ e. conflict-least p ps covering h (conflict-tells headers p ps h (refused-tells headers ranking (mergeOf headers (p ∷ ps)) (Conflict h) (told-refused buffer x (Conflict h) e λ z. omega arith))),
-      λ w. ap (λ (y : Merging). answerOf (installed headers ranking y) buffer) (conflict-made headers p ps h (least-conflicts p ps covering h within w)),
-    );
+  with-ranking (p ∷ ps) is covering fit r q = record {
+    no-ranking = (λ e. absurd (never-ranking ranking (p ∷ ps) (told-other k buffer x Ranking refl e λ z. omega arith)), λ n. clash r n);
+    conflict-named = λ t h within. (λ e. conflict-least p ps covering h (tells h e), λ w. named h (least-conflicts p ps covering h within w));
+    conflict-shown = λ h e. conflict-evidence k buffer p ps is h (tells h e) covering;
     otherwise = λ t within none.
         let m = merges-when p ps covering within none in
-        subst (λ (y : Merging). Accepted y buffer (answerOf x buffer) (ifAccepted (answerOf x buffer) (placed (fileFor x) buffer) buffer)) (sym q)
-        (written buffer x (struck headers (map (withBest ranking) (m .0))) (ap (installed headers ranking) (m .1)));
+        subst (λ (y : Merging). Accepted y buffer (also (answerOf x buffer) (entriesFor k (answerOf x buffer))) (ifAccepted (answerOf x buffer) (placed (fileFor x) buffer) buffer)) (sym q)
+        (written-plainly k buffer x (struck headers (map (withBest ranking) (m .0))) (ap (installed headers ranking) (m .1)));
     installed-list = λ n l e.
-        let w = told-accepted buffer x n l e in
+        let w = told-written k buffer x n l e in
         read-again buffer x back n l w (InstalledList ranking (p ∷ ps)) (said (w .list) (w .is));
     refused = left-alone buffer x;
   }
     where
       x : Merging
       x = installed headers ranking (mergeOf headers (p ∷ ps))
+
+      tells : (h : Header) → also (answerOf x buffer) (entriesFor k (answerOf x buffer)) ≡ conflictAnswer k h → Conflicts headers p ps h
+      tells h e = conflict-tells headers p ps h (refused-tells headers ranking (mergeOf headers (p ∷ ps)) (Conflict h) (told-conflict k buffer x h e))
+
+      named : (h : Header) → Conflicts headers p ps h → also (answerOf x buffer) (entriesFor k (answerOf x buffer)) ≡ conflictAnswer k h
+      named h c =
+          ap (λ (y : Merging). let a = answerOf (installed headers ranking y) buffer in also a (entriesFor k a)) (conflict-made headers p ps h c)
+          ∙ conflict-answer k buffer p ps is h c
 
       back : ReadsBack x
       back m e s =
@@ -126,9 +137,12 @@ module _ (ranking buffer : List ℕ) where
 
   -- ---- all of it
 
-  pub installs : (ps : List (List Entry)) → AllCovering headers ps → AllListsFit ps → Keeps ps (installOf headers ranking ps)
-  installs ps covering fit = go (isRanking ranking) refl
+  pub no-ranking-keeps : isRanking ranking ≡ false → Installing ranking k buffer (refusal Ranking) buffer
+  no-ranking-keeps n = no-ranking-kept (inForce k) n
+
+  pub installs : AllCovering headers (inForce k) → AllListsFit (inForce k) → Installing ranking k buffer (installingOf k ranking buffer .0) (installingOf k ranking buffer .1)
+  installs covering fit = go (isRanking ranking) refl
     where
-      go : (b : Bool) → isRanking ranking ≡ b → Keeps ps (cond b (installed headers ranking (mergeOf headers ps)) (refused Ranking))
-      go true r = with-ranking ps covering fit r (ap (λ (b : Bool). cond b (installed headers ranking (mergeOf headers ps)) (refused Ranking)) r)
-      go false n = no-ranking-keeps ps n
+      go : (b : Bool) → isRanking ranking ≡ b → Kept (inForce k) (cond b (installed headers ranking (mergeOf headers (inForce k))) (refused Ranking))
+      go true r = with-ranking (inForce k) refl covering fit r (ap (λ (b : Bool). cond b (installed headers ranking (mergeOf headers (inForce k))) (refused Ranking)) r)
+      go false n = no-ranking-kept (inForce k) n

@@ -1,9 +1,11 @@
 pub mod Filing
 pub mod Trace
 pub mod Fitting
+pub mod Evidence
 pub mod Demand3
 pub mod Installing
 pub mod Slotting
+pub mod Naming
 pub mod Calling
 pub mod EveryList
 pub mod RoundTrips

@@ -66,10 +66,8 @@ none-behind s l = ap (λ (n : ℕ). entriesFrom s 0 (min n filedLimit)) (ap (_/ 
     none n l = omega arith
 
 -- the bytes lent are the slot's file, and at least a head
-pub slot-adds : (s r : Option Working) (slot : Slot) (end : ℕ) → length (slot .bytes) ≡ slotSize → end ≡ max headSize (min (slot .length) slotSize)
-    → r ≡ added headers s (filedIn (take (end - 0) (drop 0 (slot .bytes)))) → r ≡ added headers s (slotList slot)
-slot-adds s r slot end z e f =
-    f ∙ ap (added headers s) (ap (λ (n : ℕ). filedIn (take n (slot .bytes))) (all end) ∙ go (leb headSize (slot .length)) refl)
+pub slot-lends : (slot : Slot) (end : ℕ) → length (slot .bytes) ≡ slotSize → end ≡ max headSize (min (slot .length) slotSize) → filedIn (take (end - 0) (drop 0 (slot .bytes))) ≡ slotList slot
+slot-lends slot end z e = ap (λ (n : ℕ). filedIn (take n (slot .bytes))) (all end) ∙ go (leb headSize (slot .length)) refl
   where
     all : (n : ℕ) → n - 0 ≡ n
     all n = omega arith

@@ -1,20 +1,22 @@
 -- The bench after any list of calls holds the book that 01 reckons, and every list in the book is a filed one.
 -- Assumes nothing.
-use Prim.Native.Nat.{ℕ, zero, suc, _-_}
+use Prim.Native.Nat.{ℕ, zero, suc, _-_, _≤_}
+use native.Mathlib.Omega.{arith}
 use mathlib.Core.Path.{_≡_, refl, sym, _∙_, ap, subst}
 use mathlib.Core.Logic.{inl, inr}
 use mathlib.Core.Bool.{Bool, true, false, cond}
 use mathlib.Core.List.{List, [], _∷_, _++_, map}
-use mathlib.Core.Option.{none, some}
-use lib.ListN.{set}
+use mathlib.Core.Option.{Option, none, some}
+use lib.ListN.{length, set, length-set}
 use Rattle.policy.specs.declared.entry.Entry.{Entry}
 use Rattle.policy.specs.Header.{headers}
 use Rattle.policy.specs.Policy.{Covering}
 use Rattle.policy.specs.Refusals.{isAccepted}
-use Rattle.wire.specs.Format.{Bytes, countIn, listIn}
+use Rattle.wire.specs.Format.{Bytes, filedLimit, countIn, listIn}
+use Rattle.wire.proofs.Entries.{length-entries}
 use Rattle.reconcile.specs.Crossproduct.{In, AllCovering}
 use Rattle.bench.specs.declared.calls.Bench.{Bench}
-use Rattle.bench.specs.Book.{Book, emptyBook, inForce}
+use Rattle.bench.specs.Book.{parties, Book, emptyBook, inForce}
 use Rattle.bench.specs.Answers.{filingOf, withdrawalOf}
 use Rattle.bench.specs.Held.{vacantSlot, slotWith, listInSlot, bookOf, openBench, withSlot}
 use Rattle.bench.specs.Calls.{Call, filing, withdrawal, merging, installing, benchStep, benchFrom, benchAfter, bookStep, bookFrom, bookAfter, FilesHave, AllBytes}
@@ -115,10 +117,13 @@ module _ (P : List Entry → Type 0) where
     from-keeps k (merging buffer ∷ cs) b e = from-keeps k cs b e
     from-keeps k (installing ranking buffer ∷ cs) b e = from-keeps k cs b e
 
-    -- what every accepted filing's list has, every list in force has after any list of calls
-    all-in-force : (cs : List Call) → FilesHave Q cs → (q : List Entry) → In q (inForce (bookAfter cs)) → P q
+    -- what every accepted filing's list has, every list in the book has after any list of calls
+    each-slot : (cs : List Call) → FilesHave Q cs → EachSlot P (bookAfter cs)
     unfolding bookAfter
-    all-in-force cs b = in-force (bookFrom emptyBook cs) (from-keeps emptyBook cs b tt)
+    each-slot cs b = from-keeps emptyBook cs b tt
+
+    all-in-force : (cs : List Call) → FilesHave Q cs → (q : List Entry) → In q (inForce (bookAfter cs)) → P q
+    all-in-force cs b = in-force (bookAfter cs) (each-slot cs b)
 
 pub all-in-force-of : (P : List Entry → Type 0) → ((p : ℕ) (s : List ℕ) → Bytes s → Files p s → P (listIn s))
     → (cs : List Call) → AllBytes cs → (q : List Entry) → In q (inForce (bookAfter cs)) → P q
@@ -126,3 +131,28 @@ all-in-force-of P f cs b = all-in-force P Bytes f cs b
 
 pub all-covering : (cs : List Call) → AllCovering headers (inForce (bookAfter cs))
 all-covering cs = all-in-force (Covering headers) (λ s. Unit {0}) (λ p s b f. f .file .covering) cs (anything cs)
+
+-- every list is as short as a filed one, and there is a slot for each party
+pub all-few : (cs : List Call) → EachSlot (λ q. length q ≤ filedLimit) (bookAfter cs)
+all-few cs = each-slot (λ q. length q ≤ filedLimit) (λ s. Unit {0}) (λ p s b f. few s (f .file .good .most-is)) cs (anything cs)
+  where
+    few : (s : List ℕ) → countIn s ≤ filedLimit → length (listIn s) ≤ filedLimit
+    few s l = omega (arith, length-entries s 0 (countIn s))
+
+pub all-slots : (cs : List Call) → length (bookAfter cs) ≡ parties
+unfolding bookAfter
+all-slots cs = go emptyBook cs refl
+  where
+    cases : (t : Bool) (k : Book) (i : ℕ) (x : Option (List Entry)) → length k ≡ parties → length (cond t (set k i x) k) ≡ parties
+    cases true k i x e = length-set k i x ∙ e
+    cases false k i x e = e
+
+    step : (k : Book) (c : Call) → length k ≡ parties → length (bookStep k c) ≡ parties
+    step k (filing p s) e = cases (isAccepted (filingOf p s)) k (p - 1) (some (listIn s)) e
+    step k (withdrawal p) e = cases (isAccepted (withdrawalOf k p)) k (p - 1) none e
+    step k (merging buffer) e = e
+    step k (installing ranking buffer) e = e
+
+    go : (k : Book) (cs : List Call) → length k ≡ parties → length (bookFrom k cs) ≡ parties
+    go k [] e = e
+    go k (c ∷ cs) e = go (bookStep k c) cs (step k c e)

@@ -1,1 +1,2 @@
 pub mod Staged
+pub mod Naming

@@ -1,8 +1,13 @@
 // The calls on a bench: it is handed to each and handed back.
+use crate::named::Named;
+use crate::named::conflict_in;
+use crate::named::name_catchers;
+use crate::named::none_named;
 use crate::slots::Slot;
 use crate::slots::add_slots;
 use crate::slots::slot_with;
 use crate::slots::vacant_slot;
+use policy::header::Found;
 use policy::ranking::is_ranking;
 use policy::refusal::Refusal;
 use reconcile::ending::Merged;
@@ -13,12 +18,9 @@ use region::covering::check_list;
 use wire::check::Checked;
 ghost use mathlib.Core.Path.{_≡_};
 ghost use mathlib.Core.List.{List, [], _∷_, _++_};
-ghost use Prim.Native.Nat.{ℕ};
-ghost use Rattle.policy.specs.Refusals.{Answer};
-ghost use Rattle.reconcile.specs.steps.Ending.{ending};
-ghost use Rattle.bench.specs.Book.{inForce};
 ghost use Rattle.bench.specs.Answers.{filed, withdrew, mergedAs};
 ghost use Rattle.bench.specs.Held.{openBench};
+ghost use Rattle.bench.specs.steps.Naming.{Answers, ResultOf};
 ghost use Rattle.bench.specs.Calls.{Call, filing, withdrawal, merging, installing, Result, resultOf, benchAfter, bookAfter};
 ghost use Rattle.bench.specs.Demand3.{Demand3};
 ghost use Rattle.bench.specs.Installing.{Installing};
@@ -57,15 +59,38 @@ pub enum MergeAnswer {
 pub struct MergeResult {
     pub bench: Bench,
     pub answer: MergeAnswer,
+    // What a refusal for conflict names of parties 1 to 8, in their order.
+    pub named: [Named; 8],
 }
 
 // The answer for what was written, or why it was not.
 fn answer_of(m: Merged) -> MergeAnswer
-    ensures { λ r. ⌜ ((b : List ℕ) → _≡_ {A = Answer × List ℕ} (mergedAs r, b) (ending m b)) ⌝ }
+    ensures { λ r. ⌜ Answers m r ⌝ }
 {
     match m {
         Merged::Done { count, length } => MergeAnswer::Merged { count, length },
         Merged::Refused(r) => MergeAnswer::Refused(r),
+    }
+}
+
+// The bench as it was, the answer, and what a conflict names.
+fn result_of(bench: Bench, m: Merged) -> MergeResult
+    ensures { λ r. ⌜ ResultOf bench m r ⌝ }
+{
+    match conflict_in(m) {
+        Found::At(h) => {
+            let slots = bench.slots;
+            MergeResult {
+                bench,
+                answer: answer_of(m),
+                named: name_catchers(slots, h),
+            }
+        }
+        Found::Nothing => MergeResult {
+            bench,
+            answer: answer_of(m),
+            named: none_named(),
+        },
     }
 }
 
@@ -149,41 +174,36 @@ impl Bench {
 
     // Merges the lists in force into a lent buffer.
     pub fn merge(self, out: &mut [u8]) -> MergeResult
-        ensures { λ r. ⌜ _≡_ {A = Result} (mergedAs (r .answer), r .bench, now (out .exit)) (resultOf self (merging (now (out .entry)))) ⌝ }
+        ensures { λ r. ⌜ _≡_ {A = Result} (mergedAs (r .answer) (r .named), r .bench, now (out .exit)) (resultOf self (merging (now (out .entry)))) ⌝ }
         ensures traced { λ r. ⌜ ((cs : List Call) → benchAfter cs ≡ self
             → (benchAfter (cs ++ (merging (now (out .entry)) ∷ [])) ≡ r .bench)
-            × Demand3 (inForce (bookAfter cs)) (now (out .entry)) (mergedAs (r .answer)) (now (out .exit))) ⌝ }
+            × Demand3 (bookAfter cs) (now (out .entry)) (mergedAs (r .answer) (r .named)) (now (out .exit))) ⌝ }
     {
         let mut rows = [0u32; ROWS];
         let slots = self.slots;
         let stage = add_slots(slots, &mut rows);
         let merged = end_merging(stage, &mut rows, out);
-        MergeResult {
-            bench: self,
-            answer: answer_of(merged),
-        }
+        result_of(self, merged)
     }
 
     // Installs the lists in force into a lent buffer: merges them, leaves each entry the action of its set that stands first in a ranking, and strikes again.
     pub fn install(self, ranking: &[u8], out: &mut [u8]) -> MergeResult
-        ensures { λ r. ⌜ _≡_ {A = Result} (mergedAs (r .answer), r .bench, now (out .exit)) (resultOf self (installing (now (ranking .entry)) (now (out .entry)))) ⌝ }
+        ensures { λ r. ⌜ _≡_ {A = Result} (mergedAs (r .answer) (r .named), r .bench, now (out .exit)) (resultOf self (installing (now (ranking .entry)) (now (out .entry)))) ⌝ }
         ensures traced { λ r. ⌜ ((cs : List Call) → benchAfter cs ≡ self
             → (benchAfter (cs ++ (installing (now (ranking .entry)) (now (out .entry)) ∷ [])) ≡ r .bench)
-            × Installing (now (ranking .entry)) (inForce (bookAfter cs)) (now (out .entry)) (mergedAs (r .answer)) (now (out .exit))) ⌝ }
+            × Installing (now (ranking .entry)) (bookAfter cs) (now (out .entry)) (mergedAs (r .answer) (r .named)) (now (out .exit))) ⌝ }
     {
         if !is_ranking(ranking) {
             return MergeResult {
                 bench: self,
                 answer: MergeAnswer::Refused(Refusal::Ranking),
+                named: none_named(),
             };
         }
         let mut rows = [0u32; ROWS];
         let slots = self.slots;
         let stage = add_slots(slots, &mut rows);
         let installed = end_installing(stage, &mut rows, ranking, out);
-        MergeResult {
-            bench: self,
-            answer: answer_of(installed),
-        }
+        result_of(self, installed)
     }
 }

@@ -3,16 +3,15 @@ use crate::calls::Bench;
 use crate::calls::MergeResult;
 ghost use mathlib.Core.Path.{_≡_};
 ghost use mathlib.Core.List.{[], _∷_};
-ghost use Rattle.bench.specs.Book.{inForce};
 ghost use Rattle.bench.specs.Answers.{mergedAs};
 ghost use Rattle.bench.specs.Calls.{filing, withdrawal, merging, Result, resultOf, benchAfter, bookAfter};
 ghost use Rattle.bench.specs.Demand3.{Demand3};
 
 // Two filings, a withdrawal and a merging on one bench.
 pub fn file_twice_and_merge(first: &[u8], second: &[u8], out: &mut [u8]) -> MergeResult
-    ensures { λ r. ⌜ _≡_ {A = Result} (mergedAs (r .answer), r .bench, now (out .exit))
+    ensures { λ r. ⌜ _≡_ {A = Result} (mergedAs (r .answer) (r .named), r .bench, now (out .exit))
         (resultOf (benchAfter (filing 1 (now (first .entry)) ∷ filing 2 (now (second .entry)) ∷ withdrawal 1 ∷ [])) (merging (now (out .entry)))) ⌝ }
-    ensures demand { λ r. ⌜ Demand3 (inForce (bookAfter (filing 1 (now (first .entry)) ∷ filing 2 (now (second .entry)) ∷ withdrawal 1 ∷ []))) (now (out .entry)) (mergedAs (r .answer)) (now (out .exit)) ⌝ }
+    ensures demand { λ r. ⌜ Demand3 (bookAfter (filing 1 (now (first .entry)) ∷ filing 2 (now (second .entry)) ∷ withdrawal 1 ∷ [])) (now (out .entry)) (mergedAs (r .answer) (r .named)) (now (out .exit)) ⌝ }
 {
     let b0 = Bench::open();
     let f = b0.file(1, first);

@@ -52,14 +52,14 @@ pub(crate) fn slot_with(file: &[u8]) -> Slot
 }
 
 // Whether a slot has no list. The numbers of the list in it fit their bytes, since they are read from bytes.
-fn is_vacant(slot: Slot) -> bool
+pub(crate) fn is_vacant(slot: Slot) -> bool
     ensures { λ t. ⌜ (t ≡ eqb (slot .length) 0) × AllFit (slotList slot) ⌝ }
 {
     slot.length == 0
 }
 
 // Where the file ends in a slot that has a length, whatever the length: behind a head, and within the slot.
-fn file_end(length: usize) -> usize
+pub(crate) fn file_end(length: usize) -> usize
     ensures { λ r. ⌜ r ≡ max headSize (min length slotSize) ⌝ }
 {
     if length < HEAD_SIZE {

@@ -3,12 +3,13 @@
 use Prim.Native.Nat.{ℕ, _+_, _≤_, _<_}
 use mathlib.Core.Path.{_≡_, sym, _∙_, ap, ap₂}
 use mathlib.Core.Bool.{Bool, cond}
-use mathlib.Core.List.{List}
+use mathlib.Core.List.{List, _++_}
 use lib.Dec.{eqb}
 use lib.ListN.{length, getD}
 use borrow.Author.Tests.{lt-ltb, le-ltb, eq-eqb, ne-eqb}
 use Rattle.policy.specs.declared.header.Header.{Header}
 use Rattle.policy.specs.declared.entry.Entry.{Entry}
+use Rattle.policy.specs.declared.entry.Caught.{Caught}
 use Rattle.policy.specs.declared.refusal.Refusal.{Refusal}
 use Rattle.policy.specs.Entry.{selector}
 use Rattle.policy.specs.Refusals.{Answer, refusal, numbers}
@@ -23,7 +24,8 @@ use Rattle.region.specs.Search.{searchOf, searched}
 use Rattle.bench.specs.declared.calls.Bench.{Bench}
 use Rattle.bench.specs.declared.calls.MergeAnswer.{MergeAnswer}
 use Rattle.bench.specs.declared.calls.MergeAnswer.the-variants as merge
-use Rattle.bench.specs.Answers.{mergedAs}
+use Rattle.bench.specs.declared.named.Named.{Named}
+use Rattle.bench.specs.Answers.{namedFrom, mergedAs}
 use Rattle.bench.specs.Calls.{Call, Result, resultOf, answerTo, lentAfter, benchAfter}
 use Rattle.report.specs.Report.{filingsOf}
 use Rattle.measured.specs.steps.Numbers.{mergeNumber, wanted, foundResult, searchResult, measuredSearch}
@@ -59,8 +61,8 @@ module _ (file entry buffer : List ℕ) (w v : ℕ) where
     pub finds-none : s ≡ find.Nothing → _≡_ {A = Handed} (0, buffer) (measuredSearch file entry w v buffer)
     finds-none q = ap (λ (s : Searched). searchResult (searched s) buffer) (sym q) ∙ answers
 
-    pub finds : (h : Header) (after : List ℕ) → s ≡ find.At h → after ≡ headerPut (numbers h) buffer → _≡_ {A = Handed} (1, after) (measuredSearch file entry w v buffer)
-    finds h after q p = ap (λ (b : List ℕ). (1, b)) p ∙ ap (λ (s : Searched). searchResult (searched s) buffer) (sym q) ∙ answers
+    pub finds : (h : Header) (c : Caught) (after : List ℕ) → s ≡ find.At h c → after ≡ headerPut (numbers h) buffer → _≡_ {A = Handed} (1, after) (measuredSearch file entry w v buffer)
+    finds h c after q p = ap (λ (b : List ℕ). (1, b)) p ∙ ap (λ (s : Searched). searchResult (searched s) buffer) (sym q) ∙ answers
 
     pub refuses : (r : Refusal) (n : ℕ) → s ≡ find.Refused r → n ≡ refusal r .number → _≡_ {A = Handed} (256 + n, buffer) (measuredSearch file entry w v buffer)
     refuses r n q m =
@@ -71,17 +73,17 @@ module _ (file entry buffer : List ℕ) (w v : ℕ) where
 
 -- ---- mergings and installings
 
-pub merge-counted : (a : MergeAnswer) (n l : ℕ) → a ≡ merge.Merged n l → n ≡ mergeNumber (mergedAs a)
-merge-counted a n l q = ap (λ (a : MergeAnswer). mergeNumber (mergedAs a)) (sym q)
+pub merge-counted : (a : MergeAnswer) (n l : ℕ) → a ≡ merge.Merged n l → (ns : List Named) → n ≡ mergeNumber (mergedAs a ns)
+merge-counted a n l q ns = ap (λ (a : MergeAnswer). mergeNumber (mergedAs a ns)) (sym q)
 
-pub merge-refused : (a : MergeAnswer) (r : Refusal) (n : ℕ) → a ≡ merge.Refused r → n ≡ refusal r .number → 256 + n ≡ mergeNumber (mergedAs a)
-merge-refused a r n q m =
+pub merge-refused : (a : MergeAnswer) (r : Refusal) (n : ℕ) → a ≡ merge.Refused r → n ≡ refusal r .number → (ns : List Named) → 256 + n ≡ mergeNumber (mergedAs a ns)
+merge-refused a r n q m ns =
     ap (256 +_) m
-    ∙ sym (ap (λ (t : Bool). cond t (getD (refusal r .values) 0 0) (256 + refusal r .number)) (refusal-refuses r))
-    ∙ ap (λ (a : MergeAnswer). mergeNumber (mergedAs a)) (sym q)
+    ∙ sym (ap (λ (t : Bool). cond t (getD (refusal r .values ++ namedFrom 1 ns) 0 0) (256 + refusal r .number)) (refusal-refuses r))
+    ∙ ap (λ (a : MergeAnswer). mergeNumber (mergedAs a ns)) (sym q)
 
 -- what a call on the bench of the filings hands back
-pub handed : (input file : List ℕ) (c : Call) (n : ℕ) (a : MergeAnswer) (b next : Bench) → b ≡ benchAfter (filingsOf input) → _≡_ {A = Result} (mergedAs a, next, file) (resultOf b c) → n ≡ mergeNumber (mergedAs a)
-    → _≡_ {A = Handed} (n, file) (mergeNumber (answerTo (benchAfter (filingsOf input)) c), lentAfter (benchAfter (filingsOf input)) c)
-handed input file c n a b next filed says q =
-    ap (λ (i : ℕ). (i, file)) q ∙ ap (λ (x : Result). (mergeNumber (x .0), x .2)) (says ∙ ap (λ (b : Bench). resultOf b c) filed)
+pub handed : (input file : List ℕ) (c : Call) (n : ℕ) (a : MergeAnswer) (ns : List Named) (b next : Bench) → b ≡ benchAfter (filingsOf input) → _≡_ {A = Result} (mergedAs a ns, next, file) (resultOf b c)
+    → ((ns : List Named) → n ≡ mergeNumber (mergedAs a ns)) → _≡_ {A = Handed} (n, file) (mergeNumber (answerTo (benchAfter (filingsOf input)) c), lentAfter (benchAfter (filingsOf input)) c)
+handed input file c n a ns b next filed says q =
+    ap (λ (i : ℕ). (i, file)) (q ns) ∙ ap (λ (x : Result). (mergeNumber (x .0), x .2)) (says ∙ ap (λ (b : Bench). resultOf b c) filed)

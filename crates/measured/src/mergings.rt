@@ -6,6 +6,7 @@ use report::filings::put_filings;
 ghost use mathlib.Core.Path.{_≡_};
 ghost use mathlib.Core.List.{List};
 ghost use Prim.Native.Nat.{ℕ};
+ghost use Rattle.bench.specs.declared.named.Named.{Named};
 ghost use Rattle.bench.specs.Answers.{mergedAs};
 ghost use Rattle.bench.specs.Calls.{merging, installing, answerTo, lentAfter, benchAfter};
 ghost use Rattle.report.specs.Report.{filingsOf};
@@ -23,7 +24,7 @@ fn filed_bench(input: &[u8]) -> Bench
 
 // The number of entries, or 256 plus the number of the refusal.
 fn merge_number(a: MergeAnswer) -> usize
-    ensures { λ r. ⌜ r ≡ mergeNumber (mergedAs a) ⌝ }
+    ensures { λ r. ⌜ ((ns : List Named) → r ≡ mergeNumber (mergedAs a ns)) ⌝ }
 {
     match a {
         MergeAnswer::Merged { count, length: _ } => count,

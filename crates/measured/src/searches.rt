@@ -44,8 +44,8 @@ pub extern "C" fn measured_search(
     let b = sides_of(read_entry(record, 0, MERGED_VERSION));
     match search_file(file, &b, want_of(want, value)) {
         Searched::Nothing => 0,
-        Searched::At(h) => {
-            put_header(buffer, h);
+        Searched::At { header, entry: _ } => {
+            put_header(buffer, header);
             1
         }
         Searched::Refused(r) => 256 + number_of(r) as u32,

@@ -12,17 +12,21 @@ use Rattle.policy.specs.steps.Cut.{cut}
 use Rattle.policy.specs.Header.{arity, fields, header, Box, lies, Headers, inAny, among}
 use Rattle.policy.specs.steps.Findings.{lesser, minOver, minFrom}
 use Rattle.policy.specs.Least.{least, leastIn}
-use Rattle.policy.proofs.Bool.{clash, is-false, and-intro, and-left}
+use Rattle.policy.proofs.Bool.{clash, is-false, and-intro, and-left, and-right}
 use Rattle.policy.proofs.Box.{any, cut-is, meet-is, corner-in, in-proper, none-before}
 use Rattle.policy.proofs.Least.{agree, union, lesser-assoc, least-at, least-none, at-tells, over, over-from}
 
 -- ---- extensionality
 
--- ---- what is found lies in the box
+-- ---- what is found lies in the box, and has the property
 
 pub found-lies : (hs : Headers) (b : Box) (P : Header → Bool) (h : Header) → leastIn hs b P ≡ At h → lies b h ≡ true
 unfolding leastIn
 found-lies hs b P h e = and-left (lies b h) (P h) (at-tells hs (λ h. lies b h && P h) h e .1)
+
+pub found-has : (hs : Headers) (b : Box) (P : Header → Bool) (h : Header) → leastIn hs b P ≡ At h → P h ≡ true
+unfolding leastIn
+found-has hs b P h e = and-right (lies b h) (P h) (at-tells hs (λ h. lies b h && P h) h e .1)
 
 -- a crossed box holds no header
 pub crossed-none : (hs : Headers) (P : Header → Bool) (b : Box) → proper arity b ≡ false → leastIn hs b P ≡ Nothing

@@ -96,6 +96,14 @@ uncaught-by n (e ∷ p) h q = missed-cons e p h ∙ go (matches e h) q (uncaught
     go true q ih = absurd (let z : _≡_ {A = ℕ} 0 1 = cc in omega arith)
     go false q ih = ih q
 
+pub uncaught-when : (n : ℕ) (p : List Entry) (h : Header) → missed p h ≡ true → catcherFrom n p h ≡ Uncaught
+uncaught-when n [] h q = refl
+uncaught-when n (e ∷ p) h q = go (matches e h) (sym (missed-cons e p h) ∙ q) (uncaught-when (n + 1) p h)
+  where
+    go : (m : Bool) → (not m && missed p h) ≡ true → (missed p h ≡ true → catcherFrom (n + 1) p h ≡ Uncaught) → cond m (By n) (catcherFrom (n + 1) p h) ≡ Uncaught
+    go true q ih = clash q refl
+    go false q ih = ih q
+
 -- Definition 4 goes by Definition 3
 pub catches-allows : (p : List Entry) (i : ℕ) (h : Header) (c : Catches p i h) → allowed p h ≡ actions (c .entry .actions)
 catches-allows p i h c =

@@ -99,23 +99,28 @@ refusalOf a =
     named : Header
     named = header (value 0, (value 1, (value 2, (value 3, (value 4, (value 5, tt))))))
 
-again : (r : Refusal) → refusalOf (refusal r) ≡ r
-again Missized = refl
-again Version = refl
-again Count = refl
-again (Crossed i) = refl
-again (Gap h) = refl
-again Party = refl
-again Vacant = refl
-again Bare = refl
-again Crowded = refl
-again (Conflict h) = refl
-again (Narrow n) = refl
-again Ranking = refl
+-- it is read from the first values alone
+again : (r : Refusal) (vs : List ℕ) → refusalOf (record { number = refusal r .number; values = refusal r .values ++ vs }) ≡ r
+again Missized vs = refl
+again Version vs = refl
+again Count vs = refl
+again (Crossed i) vs = refl
+again (Gap h) vs = refl
+again Party vs = refl
+again Vacant vs = refl
+again Bare vs = refl
+again Crowded vs = refl
+again (Conflict h) vs = refl
+again (Narrow n) vs = refl
+again Ranking vs = refl
 
--- refusals with the same number and values are the same
+-- refusals with the same number and the same values to begin with are the same
+pub refusal-starts : (r s : Refusal) (vs ws : List ℕ)
+    → _≡_ {A = Answer} (record { number = refusal r .number; values = refusal r .values ++ vs }) (record { number = refusal s .number; values = refusal s .values ++ ws }) → r ≡ s
+refusal-starts r s vs ws e = sym (again r vs) ∙ ap refusalOf e ∙ again s ws
+
 pub refusal-same : (r s : Refusal) → refusal r ≡ refusal s → r ≡ s
-refusal-same r s e = sym (again r) ∙ ap refusalOf e ∙ again s
+refusal-same r s e = refusal-starts r s [] [] (ap (λ (a : Answer). record { number = a .number; values = a .values ++ [] }) e)
 
 pub refusal-refuses : (r : Refusal) → isAccepted (refusal r) ≡ false
 refusal-refuses Missized = refl

@@ -107,7 +107,7 @@ fn cross_rows(
 }
 
 // How many entries are read of a file: no more than a filed list has.
-pub(crate) fn filed_count(file: &[u8]) -> usize
+pub fn filed_count(file: &[u8]) -> usize
     ensures { λ r. ⌜ r ≡ min (recordsIn (now (file .entry))) filedLimit ⌝ }
 {
     let n = records_in(file);

@@ -32,7 +32,7 @@ pub(crate) fn least_conflict(rows: &[u32]) -> Found
         Sets::Same(0),
         false,
         Found::Nothing,
-    )
+    ).found
 }
 
 // Whether row k is needless before those from place top on, of n.
@@ -41,7 +41,7 @@ fn is_needless(rows: &[u32], k: usize, top: usize, n: usize) -> bool
     ensures { λ r. ⌜ r ≡ needless headers (rowsFrom (now (rows .entry)) 0 k) (rowAt (now (rows .entry)) (rowSize * k)) (rowsFrom (now (rows .entry)) (rowSize * top) (n - top)) ⌝ }
 {
     let sides = row_sides(rows, ROW * k);
-    let found = least_treated(
+    let search = least_treated(
         &rows[0..ROW * k],
         &rows[ROW * top..ROW * n],
         &sides,
@@ -49,6 +49,7 @@ fn is_needless(rows: &[u32], k: usize, top: usize, n: usize) -> bool
         true,
         Found::Nothing,
     );
+    let found = search.found;
     match found {
         Found::At(_) => false,
         Found::Nothing => true,

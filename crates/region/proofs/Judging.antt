@@ -11,26 +11,26 @@ use Rattle.policy.specs.declared.header.Header.{Header}
 use Rattle.policy.specs.declared.header.Found.{Found}
 use Rattle.policy.specs.declared.header.Found.the-variants.{At, Nothing}
 use Rattle.policy.specs.declared.entry.Entry.{Entry}
-use Rattle.policy.specs.Row.{Row}
+use Rattle.policy.specs.declared.entry.Caught.{Caught}
+use Rattle.policy.specs.declared.entry.Caught.the-variants.{By}
 use Rattle.policy.specs.Box.{meet, proper}
-use Rattle.policy.specs.Header.{arity, fields, header, before, Box, Headers}
+use Rattle.policy.specs.Header.{arity, before, Box, Headers}
 use Rattle.policy.specs.steps.Findings.{lesser}
 use Rattle.policy.specs.Least.{leastIn}
 use Rattle.policy.specs.Actions.{subset}
 use Rattle.policy.specs.Entry.{selector}
-use Rattle.policy.specs.Policy.{missed}
+use Rattle.policy.specs.Policy.{catcher, missed}
 use Rattle.policy.specs.Refusals.{numbers, accepted}
-use Rattle.policy.proofs.Bool.{clash, not-true, and-left}
-use Rattle.policy.proofs.Order.{Order, earlier, equal, later, order}
+use Rattle.policy.proofs.Bool.{and-left}
 use Rattle.policy.proofs.Branch.{crossed-none}
-use Rattle.policy.proofs.Slices.{rows-split, rows-take}
+use Rattle.policy.proofs.Slices.{length-rows, rows-split, rows-take}
 use Rattle.region.specs.declared.treated.Sets.{Sets}
 use Rattle.region.specs.declared.treated.Sets.the-variants.{Same, Other, Lacking}
 use Rattle.policy.specs.Sides.{boxOf}
 use Rattle.policy.specs.steps.Rows.{rowSize, rowAt, rowsFrom, rowsIn}
-use Rattle.region.specs.steps.Corner.{improves}
-use Rattle.region.specs.steps.Treated.{wanted}
-use Rattle.region.specs.Search.{foundAnswer}
+use Rattle.lookup.specs.Lookup.{caughtValues}
+use Rattle.region.specs.steps.Treated.{wanted, findingAnswer}
+use Rattle.region.proofs.Catching.{left-caught-by}
 use Rattle.region.proofs.Uses.{leftIn, judged-wanted, judged-passed, judged-end, judged-exhausted}
 
 -- ---- is_wanted
@@ -43,41 +43,6 @@ wanted-other q s a e = ap (λ (q : Sets). wanted q a) (sym e)
 
 pub wanted-lacking : (q : Sets) (s a : ℕ) (t : Bool) → q ≡ Lacking s → t ≡ subset s a → not t ≡ wanted q a
 wanted-lacking q s a t e p = ap not p ∙ ap (λ (q : Sets). wanted q a) (sym e)
-
--- ---- is_exhausted
-
--- nothing was found, so there was nothing
-pub exhausted-none : (r best c : Found) → c ≡ lesser r best → c ≡ Nothing → lesser r best ≡ best
-exhausted-none r best c e n = go r best (sym e ∙ n)
-  where
-    go : (r best : Found) → lesser r best ≡ Nothing → lesser r best ≡ best
-    go Nothing best e = refl
-    go (At h) Nothing e = absurd (let z : _≡_ {A = ℕ} 0 1 = cc in omega arith)
-    go (At h) (At g) e = one (before g h) e
-      where
-        one : (t : Bool) → cond t (At g) (At h) ≡ Nothing → cond t (At g) (At h) ≡ At g
-        one true e = refl
-        one false e = absurd (let z : _≡_ {A = ℕ} 0 1 = cc in omega arith)
-
--- what was found does not come before best, so it is best
-pub exhausted-at : (r best c : Found) (h : Header) (t : Bool) → c ≡ lesser r best → c ≡ At h → t ≡ improves h best → not t ≡ true → lesser r best ≡ best
-exhausted-at r best c h t e a i n = go r best (sym e ∙ a) (sym i ∙ not-true n)
-  where
-    go : (r best : Found) → lesser r best ≡ At h → improves h best ≡ false → lesser r best ≡ best
-    go r Nothing e n = clash refl n
-    go Nothing (At g) e n = refl
-    go (At f) (At g) e n = one (before g f) refl e
-      where
-        same : before g f ≡ false → before f g ≡ false → Order arity (fields f) (fields g) → At f ≡ At g
-        same p q (earlier l) = clash l q
-        same p q (equal l) = ap (λ (r : Row ℕ arity). At (header r)) l
-        same p q (later l) = clash l p
-
-        one : (t : Bool) → before g f ≡ t → cond t (At g) (At f) ≡ At h → cond t (At g) (At f) ≡ At g
-        one true p e = refl
-        one false p e =
-            let k : f ≡ h = cc in
-            same p (ap (λ (f : Header). before f g) k ∙ n) (order arity (fields f) (fields g))
 
 -- ---- the entries before a place, and from it on
 
@@ -194,6 +159,29 @@ module _ (hs : Headers) (x : Box) (q : Sets) (d : Bool) (front : List Entry) (s 
         go false p = refl
         go true p = ap (λ (r : Found). lesser r found) (sym (crossed-none hs (missed (front ++ rowsIn (take at s))) inner p))
 
+  -- the entry that was searched catches what was found; if nothing before the end does, it is uncaught
+  pub part-caught-by : (i at : ℕ) (h : Header) → i < length s / rowSize → at ≡ rowSize * i
+      → leastIn hs (meet arity x (boxOf s at)) (missed (front ++ rowsIn (take at s))) ≡ At h → By i ≡ catcher (rowsIn s) h
+  part-caught-by i at h l e f =
+      left-caught-by hs x front (rowsFrom s 0 i) (rowAt s (rowSize * i)) (from s (i + 1)) i h (boxOf s (rowSize * i)) (length-rows s 0 i) (λ h. refl)
+      (sym (ap₂ (λ (at : ℕ) (p : List Entry). leastIn hs (meet arity x (boxOf s at)) (missed (front ++ p))) e (firsts-in s i at (few l) e)) ∙ f)
+      ∙ sym (ap (λ (p : List Entry). catcher p h) parts)
+    where
+      few : i < length s / rowSize → i ≤ length s / rowSize
+      few l = omega arith
+
+      all : (n i : ℕ) → i < n → n ≡ i + (n - i)
+      all n i l = omega arith
+
+      from-zero : (i : ℕ) → 0 + rowSize * i ≡ rowSize * i
+      from-zero i = omega arith
+
+      parts : rowsIn s ≡ rowsFrom s 0 i ++ rowAt s (rowSize * i) ∷ from s (i + 1)
+      parts =
+          ap (rowsFrom s 0) (all (length s / rowSize) i l)
+          ∙ rows-split s 0 i (length s / rowSize - i)
+          ∙ ap (λ (p : List Entry). rowsFrom s 0 i ++ p) (ap (λ (at : ℕ). rowsFrom s at (length s / rowSize - i)) (from-zero i) ∙ first-of s i l)
+
   -- nothing is left
   pub left-exhausted : (i at : ℕ) (found : Found) → i < length s / rowSize → at ≡ rowSize * i
       → lesser (leastIn hs x (missed (front ++ rowsIn (take at s)))) found ≡ found → found ≡ lesser (Left hs x q d front s i) found
@@ -240,5 +228,8 @@ row-part hs s at n front x p best found k m f =
 
 -- ---- a search's answer
 
-pub answer-at : (f : Found) (h : Header) → f ≡ At h → accepted (numbers h) ≡ foundAnswer f
-answer-at f h e = ap foundAnswer (sym e)
+pub answer-at : (f : Found) (c : Caught) (h : Header) → f ≡ At h → accepted (numbers h ++ caughtValues c) ≡ findingAnswer f c
+answer-at f c h e = ap (λ (f : Found). findingAnswer f c) (sym e)
+
+pub answer-none : (f : Found) (c : Caught) → f ≡ Nothing → accepted [] ≡ findingAnswer f c
+answer-none f c e = ap (λ (f : Found). findingAnswer f c) (sym e)

@@ -9,6 +9,7 @@ pub mod Everywhere
 pub mod Narrowing
 pub mod Steps
 pub mod Uses
+pub mod Catching
 pub mod Judging
 pub mod LastEntries
 pub mod OneSet

@@ -10,20 +10,21 @@ use Rattle.policy.specs.declared.header.Header.{Header}
 use Rattle.policy.specs.declared.header.Found.{Found}
 use Rattle.policy.specs.declared.header.Found.the-variants.{Nothing}
 use Rattle.policy.specs.declared.entry.Entry.{Entry}
+use Rattle.policy.specs.declared.entry.Caught.the-variants.{Uncaught}
 use Rattle.policy.specs.Header.{Box, headers}
-use Rattle.policy.specs.steps.Findings.{lesser}
 use Rattle.policy.specs.Least.{leastIn}
 use Rattle.policy.specs.Entry.{matches}
 use Rattle.policy.specs.Policy.{actions, isCaught, allowed, missed}
 use Rattle.policy.specs.steps.Rows.{rowsIn}
-use Rattle.policy.proofs.Least.{lesser-last}
 use Rattle.wire.specs.Format.{entriesFrom}
 use Rattle.wire.specs.steps.Numbered.{entryIn}
 use Rattle.region.specs.declared.treated.Sets.the-variants.{Other}
 use Rattle.region.specs.declared.search.Want.the-variants.{Differs}
-use Rattle.region.specs.steps.Treated.{judged, OneSet}
+use Rattle.region.specs.declared.treated.Finding.{Finding}
+use Rattle.region.specs.steps.Treated.{judged, OneSet, Finds}
 use Rattle.region.specs.Search.{differsFrom, treated}
 use Rattle.region.proofs.Uses.{differs-judged}
+use Rattle.region.proofs.Catching.{finds-uncaught}
 
 -- ---- entries with one set
 
@@ -37,8 +38,9 @@ one-set a (e ∷ p) h o = go (matches e h) (one-set a p h (o .1))
     go false r = r
 
 pub differs-if-missed : (a : ℕ) (p : List Entry) (x : Box) (t : Bool) (found : Found) → (t ≡ true → OneSet a p) → t ≡ true → found ≡ leastIn headers x (missed p)
-    → found ≡ leastIn headers x (treated (Differs a) p)
-differs-if-missed a p x t found o q f = f ∙ ap (leastIn headers x) (fun-ext λ h. sym (one-set a p h (o q)))
+    → Finds p (leastIn headers x (treated (Differs a) p)) Nothing (record { found = found; by = Uncaught })
+differs-if-missed a p x t found o q f =
+    subst (λ (l : Found). Finds p l Nothing (record { found = found; by = Uncaught })) (ap (leastIn headers x) (fun-ext λ h. sym (one-set a p h (o q)))) (finds-uncaught x p found f)
 
 -- the records from number i on, and one more before them
 module _ (s : List ℕ) (n a : ℕ) where
@@ -73,10 +75,8 @@ module _ (s : List ℕ) (n a : ℕ) where
 
 -- ---- the rows that records were decoded into
 
-pub decoded-differing : (a : ℕ) (rows : List ℕ) (p : List Entry) (x : Box) (found : Found) → rowsIn rows ≡ p
-    → found ≡ lesser (leastIn headers x (λ h. judged (Other a) true (allowed (rowsIn rows) h))) Nothing → found ≡ leastIn headers x (treated (Differs a) p)
-decoded-differing a rows p x found e f =
-    f
-    ∙ lesser-last (leastIn headers x (λ h. judged (Other a) true (allowed (rowsIn rows) h)))
-    ∙ ap (leastIn headers x) (fun-ext λ h. sym (differs-judged a (allowed (rowsIn rows) h)))
-    ∙ ap (λ (p : List Entry). leastIn headers x (treated (Differs a) p)) e
+pub decoded-differing : (a : ℕ) (rows : List ℕ) (p : List Entry) (x : Box) (r : Finding) → rowsIn rows ≡ p
+    → Finds (rowsIn rows) (leastIn headers x (λ h. judged (Other a) true (allowed (rowsIn rows) h))) Nothing r → Finds p (leastIn headers x (treated (Differs a) p)) Nothing r
+decoded-differing a rows p x r e f =
+    subst (λ (p : List Entry). Finds p (leastIn headers x (treated (Differs a) p)) Nothing r) e
+    (subst (λ (l : Found). Finds (rowsIn rows) l Nothing r) (ap (leastIn headers x) (fun-ext λ h. sym (differs-judged a (allowed (rowsIn rows) h)))) f)

@@ -1,7 +1,7 @@
 -- Searching a region (01): the least header of a box that a file's list treats in a wanted way.
 use Prim.Native.Nat.{ℕ}
 use mathlib.Core.Bool.{Bool, true, false, not, cond}
-use mathlib.Core.List.{List, []}
+use mathlib.Core.List.{List, [], _++_}
 use lib.Dec.{eqb}
 use Rattle.policy.specs.declared.header.Header.{Header}
 use Rattle.policy.specs.declared.header.Found.{Found}
@@ -16,6 +16,7 @@ use Rattle.policy.specs.Policy.{catcher, Allowed, actions, uncaught, allowed, m
 use Rattle.policy.specs.Refusals.{Answer, numbers, refusal, accepted, firstOf}
 use Rattle.wire.specs.Format.{listLimit, listIn}
 use Rattle.wire.specs.Checks.{fileChecks}
+use Rattle.lookup.specs.Lookup.{caughtValues}
 use Rattle.region.specs.declared.search.Want.{Want}
 use Rattle.region.specs.declared.search.Want.the-variants.{Uncaught, CaughtBy, Differs}
 use Rattle.region.specs.declared.search.Searched.{Searched}
@@ -41,17 +42,17 @@ treated (Differs s) p h = differsFrom s (allowed p h)
 abbrev pub leastInBox : Box → (Header → Bool) → Found
 leastInBox b P = cond (crossedBox b) finding.Nothing (leastIn headers b P)
 
--- a finding in 01's terms: the header, or none
-abbrev pub foundAnswer : Found → Answer
-foundAnswer (finding.At h) = accepted (numbers h)
-foundAnswer finding.Nothing = accepted []
+-- a finding in 01's terms: the header, and after it the number of the entry that catches it in the list (02, Wish 5), nothing for "uncaught"; or none
+abbrev pub foundAnswer : List Entry → Found → Answer
+foundAnswer p (finding.At h) = accepted (numbers h ++ caughtValues (catcher p h))
+foundAnswer p finding.Nothing = accepted []
 
 -- checks 1 to 4 with up to 256 entries, and then the least such header of the box
 abbrev pub searchOf : List ℕ → Box → Want → Answer
-searchOf s b want = firstOf (fileChecks s listLimit) (foundAnswer (leastInBox b (treated want (listIn s))))
+searchOf s b want = firstOf (fileChecks s listLimit) (foundAnswer (listIn s) (leastInBox b (treated want (listIn s))))
 
 -- the answer of a search in 01's terms
 abbrev pub searched : Searched → Answer
-searched (At h) = accepted (numbers h)
+searched (At h c) = accepted (numbers h ++ caughtValues c)
 searched Nothing = accepted []
 searched (Refused r) = refusal r

@@ -5,6 +5,7 @@ use crate::print::print_number;
 use bench::calls::FileAnswer;
 use bench::calls::MergeAnswer;
 use bench::calls::WithdrawAnswer;
+use bench::named::Named;
 use compare::files::Compared;
 use lookup::file::Looked;
 use policy::entry::Caught;
@@ -64,7 +65,37 @@ pub(crate) fn withdrawn(a: WithdrawAnswer) {
     }
 }
 
-pub(crate) fn merged(a: MergeAnswer) {
+// An entry's number, nothing for uncaught.
+fn print_caught(c: Caught) {
+    match c {
+        Caught::By(i) => print_number(i as u64),
+        Caught::Uncaught => {}
+    }
+}
+
+// A party's number and that of the entry named, if one is.
+fn print_named(party: usize, c: Caught) {
+    match c {
+        Caught::By(_) => {
+            print_number(party as u64);
+            print_caught(c);
+        }
+        Caught::Uncaught => {}
+    }
+}
+
+// The entries that a conflict names, of party 1 on.
+fn print_entries(named: [Named; 8]) {
+    let mut i: usize = 0;
+    while i < 8 {
+        let n = named[i];
+        let entry = n.entry;
+        i += 1;
+        print_named(i, entry);
+    }
+}
+
+pub(crate) fn merged(a: MergeAnswer, named: [Named; 8]) {
     match a {
         MergeAnswer::Merged { count, length } => {
             accepted();
@@ -73,6 +104,7 @@ pub(crate) fn merged(a: MergeAnswer) {
         }
         MergeAnswer::Refused(r) => refused(r),
     }
+    print_entries(named);
 }
 
 pub(crate) fn written(w: Written) {
@@ -87,10 +119,7 @@ pub(crate) fn written(w: Written) {
 
 pub(crate) fn caught(c: Caught) {
     accepted();
-    match c {
-        Caught::By(i) => print_number(i as u64),
-        Caught::Uncaught => {}
-    }
+    print_caught(c);
 }
 
 pub(crate) fn looked_up(l: Looked) {
@@ -115,9 +144,10 @@ pub(crate) fn compared(c: Compared) {
 
 pub(crate) fn searched(s: Searched) {
     match s {
-        Searched::At(h) => {
+        Searched::At { header, entry } => {
             accepted();
-            print_header(h);
+            print_header(header);
+            print_caught(entry);
         }
         Searched::Nothing => accepted(),
         Searched::Refused(r) => refused(r),

@@ -59,7 +59,8 @@ pub(crate) fn withdraw(b: Bench, s: &[u8], at: usize) -> Step {
 // The line of a merging or an installing into a lent buffer. Answers the bench.
 fn print_merging(r: MergeResult, buffer: &[u8]) -> Bench {
     let answer = r.answer;
-    merged(answer);
+    let named = r.named;
+    merged(answer, named);
     print_bytes(buffer);
     print_end();
     let bench = r.bench;

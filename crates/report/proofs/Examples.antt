@@ -9,6 +9,7 @@ use Rattle.policy.specs.Header.{everything, header}
 use Rattle.policy.specs.Entry.{entry}
 use Rattle.policy.specs.Refusals.{accepted, refusal}
 use Rattle.wire.specs.Format.{mergedVersion, fileOf}
+use Rattle.bench.specs.Answers.{also}
 use Rattle.bench.specs.Calls.{filing, bookAfter}
 use Rattle.report.specs.Text.{ascii, decimal}
 use Rattle.report.specs.Report.{filingsOf, filingLine, mergingLines, reportOf}
@@ -46,7 +47,8 @@ gap-line : filingLine 255 (refusal (Gap (at 0 255))) ≡ ascii "refused 255 5 00
 unfolding decimal at
 gap-line = refl
 
-conflict-line : mergingLines (refusal (Conflict (at 80 6)), []) ≡ ascii "refused 0 10 0000000000000000005000000600\n"
+-- entries 0 and 31 of parties 1 and 8
+conflict-line : mergingLines (also (refusal (Conflict (at 80 6))) (1 ∷ 0 ∷ 8 ∷ 31 ∷ []), []) ≡ ascii "refused 0 10 0000000000000000005000000600 1:0 8:31\n"
 unfolding decimal at
 conflict-line = refl
 

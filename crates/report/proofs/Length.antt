@@ -14,6 +14,9 @@ use Rattle.policy.specs.declared.header.Found.{Found}
 use Rattle.policy.specs.declared.header.Found.the-variants.{At, Nothing}
 use Rattle.policy.specs.declared.header.Header.{Header}
 use Rattle.policy.specs.declared.entry.Entry.{Entry}
+use Rattle.policy.specs.declared.entry.Caught.{Caught}
+use Rattle.policy.specs.declared.entry.Caught.the-variants.{By, Uncaught}
+use Rattle.policy.specs.Policy.{catcher}
 use Rattle.policy.specs.declared.refusal.Refusal.{Refusal}
 use Rattle.policy.specs.declared.refusal.Refusal.the-variants.{Missized, Version, Count, Crossed, Gap, Party, Bare, Crowded, Conflict, Narrow}
 use Rattle.policy.specs.Entry.{crossed}
@@ -24,16 +27,19 @@ use Rattle.wire.proofs.Bytes.{bytes-take, bytes-drop}
 use Rattle.wire.proofs.Entries.{length-entries}
 use Rattle.region.specs.ListChecks.{gapOf}
 use Rattle.policy.specs.Header.{headers}
-use Rattle.reconcile.specs.Rules.{mergeOf}
+use Rattle.reconcile.specs.Rules.{conflictOf}
 use Rattle.reconcile.proofs.Merging.{merging-cases}
 use Rattle.wire.specs.Answers.{ifAccepted}
 use Rattle.wire.specs.Writing.{placed}
 use Rattle.reconcile.specs.Ending.{endingOf}
-use Rattle.bench.specs.Book.{Book, inForce}
-use Rattle.bench.specs.Answers.{badParty, filingOf}
+use Rattle.lookup.proofs.FileLookup.{caught-below}
+use Rattle.bench.specs.Book.{parties, Book, inForce}
+use Rattle.bench.specs.Answers.{badParty, filingOf, also, entryOf, catchersFrom, entriesAt, naming, mergingOf}
+use Rattle.bench.specs.steps.Staged.{EachSlot}
+use Rattle.bench.proofs.Trace.{all-few, all-slots}
 use Rattle.bench.specs.Calls.{bookAfter}
 use Rattle.report.specs.Text.{ascii, digit, decimal, hex}
-use Rattle.report.specs.Report.{inputLimit, fileRun, filingsIn, filingsOf, detail, refusedLine, filingLine, filingLines, recordLines, mergingLines, mergeBuffer, linesOf, reportOf, reportSize}
+use Rattle.report.specs.Report.{inputLimit, fileRun, filingsIn, filingsOf, entriesText, detail, refusedLine, filingLine, filingLines, recordLines, mergingLines, mergeBuffer, linesOf, reportOf, reportSize}
 use Rattle.report.proofs.Digits.{one-digit, last-digit}
 use Rattle.report.proofs.Lines.{line-refused}
 
@@ -181,19 +187,35 @@ records-length (suc n) s =
 merged-length : (n : ℕ) (file : List ℕ) → n ≤ listLimit → length (mergingLines (accepted (n ∷ fileSize mergedVersion n ∷ []), file)) ≤ 15627
 merged-length n file h = simp length-append (omega (arith, digits-within 2 n (omega arith), records-length n (drop headSize file)))
 
-merging-length : (buffer : List ℕ) → length buffer ≡ fileSize mergedVersion listLimit → (ps : List (List Entry)) → length (mergingLines (endingOf (mergeOf headers ps) buffer)) ≤ 15627
-merging-length buffer e ps =
-    merging-cases headers ps (λ r. length (mergingLines (endingOf r buffer)) ≤ 15627)
+-- what a conflict names: ` P:E` with one digit for a party, and at most two for an entry of a filed list
+names-length : (p : ℕ) (k : Book) (h : Header) → EachSlot (λ q. length q ≤ filedLimit) k → p + length k ≤ 10 → length (entriesText (catchersFrom p k h)) ≤ 5 * length k
+names-length p [] h few l = omega arith
+names-length p (none ∷ k) h few l = omega (arith, names-length (p + 1) k h few (omega arith))
+names-length p (some q ∷ k) h few l = go (catcher q h) refl (names-length (p + 1) k h (few .1) (omega arith))
+  where
+    go : (c : Caught) → catcher q h ≡ c → length (entriesText (catchersFrom (p + 1) k h)) ≤ 5 * length k → length (entriesText (entryOf p c ++ catchersFrom (p + 1) k h)) ≤ 5 * length (some q ∷ k)
+    go Uncaught e rest = omega arith
+    go (By i) e rest = simp length-append (omega (arith, rest, digits-within 0 p (omega arith), digits-within 1 i (omega (arith, caught-below q h i e, few .0))))
+
+conflict-length : (k : Book) (h : Header) (f : Found) → EachSlot (λ q. length q ≤ filedLimit) k → length k ≡ parties
+    → length (refusedLine 0 (also (refusal (Conflict h)) (entriesAt k f))) ≤ 15627
+conflict-length k h (At g) few n = simp length-append (omega (arith, names-length 1 k g few (omega arith), digits-within 1 10 (omega arith), digits-within 0 0 (omega arith)))
+conflict-length k h Nothing few n = simp length-append (omega (arith, digits-within 1 10 (omega arith), digits-within 0 0 (omega arith)))
+
+merging-length : (k : Book) → EachSlot (λ q. length q ≤ filedLimit) k → length k ≡ parties → (buffer : List ℕ) → length buffer ≡ fileSize mergedVersion listLimit
+    → length (mergingLines (mergingOf k buffer)) ≤ 15627
+merging-length k few-entries slots buffer e =
+    merging-cases headers (inForce k) (λ r. length (mergingLines (naming k (endingOf r buffer))) ≤ 15627)
     (omega (arith, refused-length 0 (refusal Bare) (omega arith) (omega arith) (omega arith)))
     (omega (arith, refused-length 0 (refusal Crowded) (omega arith) (omega arith) (omega arith)))
-    (λ h. omega (arith, refused-length 0 (refusal (Conflict h)) (omega arith) (omega arith) (omega arith)))
+    (λ h. conflict-length k h (conflictOf headers (inForce k)) few-entries slots)
     λ m. go m (ltb (length buffer) (fileSize mergedVersion (length m))) refl
   where
     written : List Entry → Bool → Answer
     written m t = firstOf (refuse t (Narrow (fileSize mergedVersion (length m))) ∷ []) (accepted (length m ∷ fileSize mergedVersion (length m) ∷ []))
 
     go : (m : List Entry) (t : Bool) → ltb (length buffer) (fileSize mergedVersion (length m)) ≡ t
-        → length (mergingLines (written m t, ifAccepted (written m t) (placed (fileOf mergedVersion m) buffer) buffer)) ≤ 15627
+        → length (mergingLines (naming k (written m t, ifAccepted (written m t) (placed (fileOf mergedVersion m) buffer) buffer))) ≤ 15627
     go m true t = omega (arith, refused-length 0 (refusal (Narrow (fileSize mergedVersion (length m)))) (omega arith) (omega arith) (omega arith))
     go m false t = merged-length (length m) (placed (fileOf mergedVersion m) buffer) (few (length m) (length buffer) e (ltb-false (length buffer) (fileSize mergedVersion (length m)) t))
       where
@@ -213,4 +235,4 @@ report-fits input b = go (ltb inputLimit (length input)) refl
     go true t = omega arith
     go false t =
         simp length-append
-        (omega (arith, filings-length (length input) input b, merging-length mergeBuffer (length-replicate {A = ℕ} (fileSize mergedVersion listLimit) 0) (inForce book), ltb-false inputLimit (length input) t))
+        (omega (arith, filings-length (length input) input b, merging-length book (all-few (filingsOf input)) (all-slots (filingsOf input)) mergeBuffer (length-replicate {A = ℕ} (fileSize mergedVersion listLimit) 0), ltb-false inputLimit (length input) t))

@@ -1,5 +1,6 @@
 pub mod Buffer
 pub mod Digits
+pub mod EntriesText
 pub mod Lines
 pub mod Framing
 pub mod Records

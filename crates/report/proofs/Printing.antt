@@ -22,8 +22,8 @@ use Rattle.reconcile.specs.Crossproduct.{AllCovering}
 use Rattle.reconcile.specs.Rules.{Merging, refused, merged, mergeOf}
 use Rattle.reconcile.specs.Ending.{endingOf}
 use Rattle.reconcile.proofs.Merging.{merged-few}
-use Rattle.bench.specs.Book.{inForce}
-use Rattle.bench.specs.Answers.{mergingOf}
+use Rattle.bench.specs.Book.{Book, inForce}
+use Rattle.bench.specs.Answers.{also, entriesFor, naming, mergingOf}
 use Rattle.bench.specs.Calls.{bookAfter, AllBytes}
 use Rattle.bench.specs.Demand3.{MergedList, Demand3}
 use Rattle.bench.proofs.Trace.{all-covering, all-in-force-of}
@@ -38,9 +38,10 @@ abbrev pub listLines : List Entry → List ℕ
 listLines [] = []
 listLines (e ∷ m) = hex (recordOf mergedVersion e) ++ ascii "\n" ++ listLines m
 
-abbrev pub outcomeLines : Merging → List ℕ
-outcomeLines (refused r) = refusedLine 0 (refusal r)
-outcomeLines (merged m) = ascii "merged " ++ decimal (length m) ++ ascii "\n" ++ listLines m
+-- the book tells what a conflict names
+abbrev pub outcomeLines : Book → Merging → List ℕ
+outcomeLines k (refused r) = refusedLine 0 (also (refusal r) (entriesFor k (refusal r)))
+outcomeLines k (merged m) = ascii "merged " ++ decimal (length m) ++ ascii "\n" ++ listLines m
 
 -- the lines of a file's records are those of its list
 records-are : (m : List Entry) (rest : List ℕ) → recordLines (length m) (recordsOf mergedVersion m ++ rest) ≡ listLines m
@@ -48,10 +49,10 @@ records-are [] rest = refl
 records-are (e ∷ m) rest = ap (λ (l : List ℕ). hex (recordOf mergedVersion e) ++ ascii "\n" ++ l) (records-are m rest)
 
 -- a merged list is never too long for the buffer
-module _ (buffer : List ℕ) (size : length buffer ≡ fileSize mergedVersion listLimit) where
-  merged-lines : (m : List Entry) → length m ≤ listLimit → mergingLines (endingOf (merged m) buffer) ≡ outcomeLines (merged m)
+module _ (k : Book) (buffer : List ℕ) (size : length buffer ≡ fileSize mergedVersion listLimit) where
+  merged-lines : (m : List Entry) → length m ≤ listLimit → mergingLines (naming k (endingOf (merged m) buffer)) ≡ outcomeLines k (merged m)
   merged-lines m few =
-      ap (λ (t : Bool). mergingLines (written t, ifAccepted (written t) (placed (fileOf mergedVersion m) buffer) buffer))
+      ap (λ (t : Bool). mergingLines (naming k (written t, ifAccepted (written t) (placed (fileOf mergedVersion m) buffer) buffer)))
       (le-ltb (length buffer) (fileSize mergedVersion (length m)) (fits (length m) (length buffer) few size))
       ∙ ap (λ (l : List ℕ). ascii "merged " ++ decimal (length m) ++ ascii "\n" ++ l) (records-are m (drop (length (fileOf mergedVersion m)) buffer))
     where
@@ -61,9 +62,10 @@ module _ (buffer : List ℕ) (size : length buffer ≡ fileSize mergedVersion li
       fits : (n l : ℕ) → n ≤ listLimit → l ≡ fileSize mergedVersion listLimit → fileSize mergedVersion n ≤ l
       fits n l h e = omega arith
 
-  outcome-lines : (r : Merging) → ((m : List Entry) → r ≡ merged m → length m ≤ listLimit) → mergingLines (endingOf r buffer) ≡ outcomeLines r
+  outcome-lines : (r : Merging) → ((m : List Entry) → r ≡ merged m → length m ≤ listLimit) → mergingLines (naming k (endingOf r buffer)) ≡ outcomeLines k r
   outcome-lines (refused r) few =
-      ap (λ (t : Bool). cond t (ascii "merged " ++ decimal (getD (refusal r .values) 0 0) ++ ascii "\n" ++ recordLines (getD (refusal r .values) 0 0) (drop headSize (cond t (placed [] buffer) buffer))) (refusedLine 0 (refusal r)))
+      let vs = refusal r .values ++ entriesFor k (refusal r) in
+      ap (λ (t : Bool). cond t (ascii "merged " ++ decimal (getD vs 0 0) ++ ascii "\n" ++ recordLines (getD vs 0 0) (drop headSize (cond t (placed [] buffer) buffer))) (refusedLine 0 (also (refusal r) (entriesFor k (refusal r)))))
       (refusal-refuses r)
   outcome-lines (merged m) few = merged-lines m (few m refl)
 
@@ -73,17 +75,20 @@ few-merged (p ∷ ps) m e = merged-few headers p ps m e
 
 -- ---- the report
 
--- the lists in force after the filings of an input
+-- the book and the lists in force after the filings of an input
+abbrev pub bookOfInput : List ℕ → Book
+bookOfInput input = bookAfter (filingsOf input)
+
 abbrev pub inForceAfter : List ℕ → List (List Entry)
-inForceAfter input = inForce (bookAfter (filingsOf input))
+inForceAfter input = inForce (bookOfInput input)
 
 -- a line for each filing, then the lines of the merging
-pub printed : (input : List ℕ) → length input ≤ inputLimit → reportOf input ≡ filingLines (filingsOf input) ++ outcomeLines (mergeOf headers (inForceAfter input))
+pub printed : (input : List ℕ) → length input ≤ inputLimit → reportOf input ≡ filingLines (filingsOf input) ++ outcomeLines (bookOfInput input) (mergeOf headers (inForceAfter input))
 unfolding reportOf
 printed input h =
     ap (λ (t : Bool). cond t (ascii "input too long\n") (linesOf (filingsOf input))) (le-ltb inputLimit (length input) h)
     ∙ ap (λ (l : List ℕ). filingLines (filingsOf input) ++ l)
-    (outcome-lines mergeBuffer (length-replicate {A = ℕ} (fileSize mergedVersion listLimit) 0) (mergeOf headers (inForceAfter input)) (few-merged (inForceAfter input)))
+    (outcome-lines (bookOfInput input) mergeBuffer (length-replicate {A = ℕ} (fileSize mergedVersion listLimit) 0) (mergeOf headers (inForceAfter input)) (few-merged (inForceAfter input)))
 
 -- the records printed are those of the merged list: it allows each header exactly the common actions, is the widest such list, and nothing in it can be struck
 pub printed-list : (input : List ℕ) (m : List Entry) → mergeOf headers (inForceAfter input) ≡ merged m → MergedList (inForceAfter input) m (length m)
@@ -105,9 +110,8 @@ all-bytes (suc n) (p ∷ s) b = (bytes-take (fileRun s) s bytes, all-bytes n (dr
     bytes i = b (suc i)
 
 -- the answer and the buffer that are printed
-pub printed-keeps : (input : List ℕ) → Bytes input
-    → Demand3 (inForceAfter input) mergeBuffer (mergingOf (bookAfter (filingsOf input)) mergeBuffer .0) (mergingOf (bookAfter (filingsOf input)) mergeBuffer .1)
+pub printed-keeps : (input : List ℕ) → Bytes input → Demand3 (bookOfInput input) mergeBuffer (mergingOf (bookOfInput input) mergeBuffer .0) (mergingOf (bookOfInput input) mergeBuffer .1)
 unfolding filingsOf
 printed-keeps input b =
-    demand-3 mergeBuffer (inForceAfter input) (all-covering (filingsOf input))
+    demand-3 (bookOfInput input) mergeBuffer (all-covering (filingsOf input))
     (reads-back (inForceAfter input) (all-in-force-of AllFit (λ p s c f. entries-fit s 0 (countIn s) c) (filingsOf input) (all-bytes (length input) input b)))

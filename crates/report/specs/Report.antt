@@ -1,9 +1,10 @@
 -- The program's report (01, "The program"): its whole output, from its input as bytes.
 use Prim.Native.Nat.{ℕ, zero, suc, _+_, _*_, min}
-use mathlib.Core.Bool.{cond, _||_}
+use mathlib.Core.Bool.{cond}
 use mathlib.Core.List.{List, [], _∷_, _++_}
 use lib.Dec.{ltb, eqb}
 use lib.ListN.{length, getD, take, drop, replicate}
+use Rattle.policy.specs.Header.{arity}
 use Rattle.policy.specs.Refusals.{Answer, isAccepted}
 use Rattle.wire.specs.Format.{mergedVersion, headSize, recordSize, listLimit, fileSize, lengthIn, headerBytes}
 use Rattle.bench.specs.Answers.{filingOf, mergingOf}
@@ -32,11 +33,22 @@ filingsOf input = filingsIn (length input) input
 
 -- ---- the lines
 
--- after 4 follows, past one space, the entry number; after 5 and 10 likewise the header as 28 hexadecimal digits
+-- past one space, the header with which the values begin, as 28 hexadecimal digits
+abbrev pub headerText : List ℕ → List ℕ
+headerText values = ascii " " ++ hex (headerBytes values)
+
+-- ` P:E` for each party and entry number (02, Wish 5)
+abbrev pub entriesText : List ℕ → List ℕ
+entriesText [] = []
+entriesText (p ∷ []) = []
+entriesText (p ∷ e ∷ values) = ascii " " ++ decimal p ++ ascii ":" ++ decimal e ++ entriesText values
+
+-- after 4 follows, past one space, the entry number; after 5 and 10 likewise the header; after that of 10 the party and entry number of each party in force
 abbrev pub detail : Answer → List ℕ
 detail a =
     cond (eqb (a .number) 4) (ascii " " ++ decimal (getD (a .values) 0 0))
-    (cond (eqb (a .number) 5 || eqb (a .number) 10) (ascii " " ++ hex (headerBytes (a .values))) [])
+    (cond (eqb (a .number) 5) (headerText (a .values))
+    (cond (eqb (a .number) 10) (headerText (a .values) ++ entriesText (drop arity (a .values))) []))
 
 -- `refused P R`
 abbrev pub refusedLine : ℕ → Answer → List ℕ

@@ -4,6 +4,7 @@ mod frame;
 mod line;
 mod merged;
 mod merging;
+mod named;
 mod text;
 
 use crate::filings::put_filings;

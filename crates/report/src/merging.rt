@@ -18,8 +18,9 @@ pub(crate) fn put_merging(out: &mut [u8], at: usize, bench: Bench) -> usize
     let mut file = [0u8; FILE_SIZE];
     let m = bench.merge(&mut file);
     let answer = m.answer;
+    let named = m.named;
     match answer {
         MergeAnswer::Merged { count, length: _ } => put_merged(out, at, count, &file),
-        MergeAnswer::Refused(r) => put_refused(out, at, 0, r),
+        MergeAnswer::Refused(r) => put_refused(out, at, 0, r, named),
     }
 }

@@ -3,11 +3,11 @@
 use outside::baseline;
 use outside::cells;
 use outside::daemon_cases::{comparisons, lookups};
-use outside::entry::{header_bytes, is_header, Entry, Header, List, ALL, HEADER, RECORD};
+use outside::entry::{header_bytes, is_header, Header, List, ALL, HEADER, RECORD};
 use outside::generate::{any_list, box_near, header_near, long_list, program_input, Sets};
 use outside::generate::{cross_one, file_in_some_version, good_ranking, some_ranking};
 use outside::merge::{install, merge, Form, Merged};
-use outside::model::{self, Bench, Refusal, Want, LONGEST_FILE};
+use outside::model::{self, numbered, Bench, Refusal, Want, LONGEST_FILE};
 use outside::random::Random;
 use outside::report::Cases;
 use outside::search::{common_part, decode, trimmed, Decoded, Packed};
@@ -54,10 +54,12 @@ fn searches(cases: &mut Cases, wanted: usize, random: &mut Random) {
         let expected = model::search(&file, &within, want).unwrap();
         let case = || format!("{want:?} in {within:?} of {list:?}");
         let packed = Packed { lists: [&bytes, &[]] };
+        let expected = expected.map(|(header, _)| header);
         cases.same(baseline::search(&packed, &within, want, &mut 0), expected, case);
         let decoded = Decoded { lists: [&list, &[]] };
         cases.same(baseline::search(&decoded, &within, want, &mut 0), expected, case);
         let uncaught = model::search(&file, &ALL, Want::Uncaught).unwrap();
+        let uncaught = uncaught.map(|(header, _)| header);
         cases.same(cells::gap(&list, 1_000_000), Ok(uncaught), case);
     }
 }
@@ -66,7 +68,7 @@ fn searches(cases: &mut Cases, wanted: usize, random: &mut Random) {
 fn expected(answer: Result<List, Refusal>) -> Option<Merged> {
     match answer {
         Ok(list) => Some(Merged::List(list)),
-        Err(Refusal::Conflict(header)) => Some(Merged::Conflict(header)),
+        Err(Refusal::Conflict(header, _)) => Some(Merged::Conflict(header)),
         Err(Refusal::Crowded) => Some(Merged::Crowded),
         Err(_) => None,
     }
@@ -78,13 +80,13 @@ fn mergings(cases: &mut Cases, wanted: usize, random: &mut Random) {
     for _ in 0..wanted {
         let input = program_input(random);
         let lists: Vec<List> = baseline::filed(&input);
-        let slices: Vec<&[Entry]> = lists.iter().map(|l| &l[..]).collect();
+        let filed = numbered(&lists);
         let ranking = good_ranking(random);
-        let Some(merged) = expected(model::merged_list(&slices)) else {
+        let Some(merged) = expected(model::merged_list(&filed)) else {
             answers[3] += 1;
             continue;
         };
-        let installed = expected(model::installed_list(&slices, &ranking)).expect("lists in force");
+        let installed = expected(model::installed_list(&filed, &ranking)).expect("lists in force");
         answers[match &merged {
             Merged::List(_) => 0,
             Merged::Conflict(_) => 1,

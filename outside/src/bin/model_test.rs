@@ -1,17 +1,19 @@
-//! The model against the examples of 01 and of Wishes 1, 2 and 4, against the point-by-point walk of
+//! The model against the examples of 01 and of Wishes 1, 2, 4 and 5, against the point-by-point walk of
 //! small header spaces, and its bench against the history of calls.
 
 use outside::calls::{bench_calls, call_list};
 use outside::entry::{both_ways, file, file_in, header_bytes, is_header, VERSIONS};
-use outside::entry::{Box6, Entry, Header, List, ALL, DIRECTION, IN, OUT};
+use outside::entry::{Box6, Entry, Header, List, ALL, DIRECTION, IN, LAST_HEADER, OUT};
 use outside::generate::{box_near, only, shaped_list, single_ports, small_list, Sets, CROWDS};
-use outside::generate::{leave_directions, some_ranking, RISING};
-use outside::model::{self, allowed, holds, Bench, Refusal, Versioned, Want};
-use outside::points::{combinations, is_small, least_uncaught, merged, points, small_box};
+use outside::generate::{leave_directions, longest_conflict, some_parties, some_ranking, RISING};
+use outside::model::{self, allowed, holds, numbered, Bench, Filed, Refusal, Versioned, Want};
+use outside::naming;
+use outside::points::{catcher, combinations, is_small, least_uncaught, merged, points, small_box};
 use outside::points::{common_actions, foremost, installed, is_needless, keeping_foremost, struck};
 use outside::random::Random;
-use outside::replay::{replayed, Buffer, Call};
+use outside::replay::{answer, replayed, Buffer, Bytes, Call};
 use outside::report::Cases;
+use std::collections::BTreeMap;
 
 const DISCARD: u16 = 1;
 const BYPASS: u16 = 2;
@@ -26,11 +28,15 @@ fn slices(lists: &[List]) -> Vec<&[Entry]> {
 }
 
 fn merge_of(lists: &[List]) -> Result<List, Refusal> {
-    model::merged_list(&slices(lists))
+    model::merged_list(&numbered(lists))
 }
 
 fn install_of(lists: &[List], ranking: &[u8]) -> Result<List, Refusal> {
-    model::installed_list(&slices(lists), ranking)
+    model::installed_list(&numbered(lists), ranking)
+}
+
+fn conflict(header: Header, named: &[(u8, usize)]) -> Result<List, Refusal> {
+    Err(Refusal::Conflict(header, named.to_vec()))
 }
 
 /// Local port 80 with TCP.
@@ -90,9 +96,10 @@ fn examples(cases: &mut Cases) {
     }
 
     let p6 = [vec![entry(ALL, BYPASS)], vec![entry(ALL, DISCARD)]];
-    cases.same(merge_of(&p6), Err(Refusal::Conflict([0; 6])), none);
+    cases.same(merge_of(&p6), conflict([0; 6], &[(1, 0), (2, 0)]), none);
 
-    cases.same(merge_of(&appendix(BYPASS)), Err(Refusal::Conflict([0, 0, 0, 0, 1, 0])), none);
+    let p7 = conflict([0, 0, 0, 0, 1, 0], &[(1, 2), (2, 1)]);
+    cases.same(merge_of(&appendix(BYPASS)), p7, none);
     let three = vec![entry(subnet_web(), BYPASS | ESP), entry(web(), ESP), entry(ALL, DISCARD)];
     cases.same(merge_of(&appendix(BYPASS | DISCARD)), Ok(three), none);
 
@@ -101,7 +108,7 @@ fn examples(cases: &mut Cases) {
 
     let icmp = only(4, 1, 1);
     let before = [vec![entry(icmp, 0), entry(ALL, DISCARD)]];
-    cases.same(merge_of(&before), Err(Refusal::Conflict([0, 0, 0, 0, 1, 0])), none);
+    cases.same(merge_of(&before), conflict([0, 0, 0, 0, 1, 0], &[(1, 0)]), none);
     let after = [vec![entry(ALL, DISCARD), entry(icmp, 0)]];
     cases.same(merge_of(&after), Ok(vec![entry(ALL, DISCARD)]), none);
 
@@ -149,7 +156,7 @@ fn ports_where_there_are_ports(cases: &mut Cases) {
     cases.same(merge_of(&clinic), Ok(three), none);
     let mut tcp = clinic.clone();
     tcp[1][0].selector = only(4, 6, 6);
-    cases.same(merge_of(&tcp), Err(Refusal::Conflict([0, 0, 80, 0, 6, 0])), none);
+    cases.same(merge_of(&tcp), conflict([0, 0, 80, 0, 6, 0], &[(1, 0), (2, 0)]), none);
 
     // Protocols 0 to 5 are matched with port 0 alone, and they have no other.
     let mut zero = only(2, 0, 0);
@@ -264,7 +271,7 @@ fn refusals_of_installing(cases: &mut Cases) {
     cases.same(install_of(&[], &RISING), Err(Refusal::Bare), none);
     cases.same(Bench::default().install(&RISING, &mut []), Err(Refusal::Bare), none);
     cases.same(install_of(&crowd, &RISING), Err(Refusal::Crowded), none);
-    cases.same(install_of(&clash, &RISING), Err(Refusal::Conflict([0; 6])), none);
+    cases.same(install_of(&clash, &RISING), conflict([0; 6], &[(1, 0), (2, 0)]), none);
 }
 
 /// How long the buffer has to be: three entries have a file of 95 bytes, two one of 65.
@@ -283,8 +290,8 @@ fn room_to_install(cases: &mut Cases) {
     ] {
         let case = || format!("{length} bytes for installing by {ranking:?}");
         let mut buffer = vec![0x77; length];
+        let written = expected.as_ref().map_or(0, |(_, length)| *length);
         cases.same(bench.install(ranking, &mut buffer), expected, case);
-        let written = expected.map_or(0, |(_, length)| length);
         cases.same(buffer[written..].iter().all(|b| *b == 0x77), true, case);
     }
     cases.same(bench.merge(&mut [0; 94]), Err(Refusal::Narrow(95)), || "merging".into());
@@ -363,9 +370,9 @@ fn directions_above_1(cases: &mut Cases) {
             let first =
                 (0..2).find(|d| is_good && low <= *d && *d <= high).map(|d| [0, 0, 0, 0, 0, d]);
             let within = only(DIRECTION, low, high);
-            let all = bytes_of(ONE);
-            cases.same(model::search(&all, &within, Want::CaughtBy(0)), Ok(first), case);
-            cases.same(model::search(&all, &within, Want::Differing(9)), Ok(first), case);
+            let (all, found) = (bytes_of(ONE), first.map(|h| (h, Some(0))));
+            cases.same(model::search(&all, &within, Want::CaughtBy(0)), Ok(found), case);
+            cases.same(model::search(&all, &within, Want::Differing(9)), Ok(found), case);
             for d in [0, 1, 2, 255] {
                 let found = model::lookup_in_table(&list[1..], &h(d));
                 let matches = is_good && d <= 1 && low <= d && d <= high;
@@ -413,7 +420,7 @@ fn writing_in_a_version(cases: &mut Cases) {
         (2, 256, many, Err(Refusal::Narrow(7685))),
     ] {
         let case = || format!("writing {count} in version {version}: {list:?}");
-        cases.same(model::write(version, count, &list, &mut [0; 2]), expected, case);
+        cases.same(model::write(version, count, &list, &mut [0; 2]), expected.clone(), case);
         if let Err(Refusal::Narrow(needed)) = expected {
             let mut buffer = vec![0; needed];
             cases.same(model::write(version, count, &list, &mut buffer), Ok(needed), case);
@@ -444,7 +451,7 @@ fn one_direction_alone(cases: &mut Cases) {
     // In conflict for one direction; the second list speaks of both.
     let (first, second) = (vec![ways(1, 1, BYPASS), entry(ALL, either)], vec![entry(ALL, DISCARD)]);
     let lists = [first.clone(), second.clone()];
-    cases.same(merge_of(&lists), Err(Refusal::Conflict([0, 0, 0, 0, 0, 1])), none);
+    cases.same(merge_of(&lists), conflict([0, 0, 0, 0, 0, 1], &[(1, 0), (2, 0)]), none);
     // Apart, and so not in conflict; the pair of the last entries catches nothing.
     let apart = [first.clone(), vec![ways(0, 0, DISCARD), entry(ALL, either)]];
     let merged = vec![ways(1, 1, BYPASS), ways(0, 0, DISCARD)];
@@ -494,6 +501,91 @@ fn inbound_and_outbound(cases: &mut Cases) {
     writing_in_a_version(cases);
     one_direction_alone(cases);
     merged_in_version_2(cases);
+}
+
+// ---------------------------------------------------------------- whose entries clash: Wish 5 of 02
+
+/// Lists of parties 2, 5 and 8 that clash at local port 80 with TCP. Of party 2, entry 0 matches no header
+/// and entry 2 catches none: ports 0 to 79 are entry 1's.
+fn three_parties() -> [(u8, List); 3] {
+    let mut gre = only(2, 80, 80);
+    (gre.low[4], gre.high[4]) = (47, 47);
+    let either = entry(ALL, DISCARD | BYPASS);
+    let second = vec![
+        entry(gre, DISCARD),
+        entry(only(2, 0, 79), DISCARD),
+        entry(only(2, 10, 70), 0),
+        entry(web(), BYPASS),
+        either,
+    ];
+    let icmp = entry(only(4, 1, 1), DISCARD);
+    let eighth = vec![icmp, entry(only(4, 6, 6), DISCARD), either];
+    [(2, second), (5, vec![icmp, either]), (8, eighth)]
+}
+
+/// Party 5 is named too, which allows both actions; party 1, which withdraws, is not.
+fn whose_entries_clash(cases: &mut Cases) {
+    let none = || "an example of Wish 5".to_string();
+    let lists = three_parties();
+    let filed: Vec<Filed> = lists.iter().map(|(party, list)| (*party, &list[..])).collect();
+    let expected = conflict([0, 0, 80, 0, 6, 0], &[(2, 3), (5, 1), (8, 1)]);
+    cases.same(model::merged_list(&filed), expected.clone(), none);
+    cases.same(model::installed_list(&filed, &RISING), expected, none);
+
+    // The order of the filings does not matter.
+    for order in [[0, 1, 2], [2, 0, 1], [2, 1, 0]] {
+        let records = order.map(|i| [vec![lists[i].0], file(&lists[i].1)].concat());
+        let shown = model::program(&records.concat());
+        let last = "refused 0 10 0000000000000000005000000600 2:3 5:1 8:1";
+        cases.same(shown.lines().last(), Some(last), none);
+
+        let mut bench = Bench::default();
+        cases.same(bench.file(1, &file(&[entry(ALL, DISCARD)])), Ok(1), none);
+        for i in order {
+            let (party, list) = &lists[i];
+            cases.same(bench.file(*party, &file(list)), Ok(list.len()), none);
+        }
+        cases.same(bench.withdraw(1), Ok(()), none);
+        let buffer = Buffer { length: 1, fill: 0xaa };
+        let ranking = Bytes(RISING.to_vec());
+        for call in [Call::Merge { buffer }, Call::Install { ranking, buffer }] {
+            let line = answer(&mut bench, &call);
+            cases.same(line.as_str(), "no 10 0 0 80 0 6 0 2 3 5 1 8 1 = aa", none);
+        }
+    }
+}
+
+/// Eight parties, and numbers of two digits.
+fn longest_of_conflicts(cases: &mut Cases) {
+    let lists = longest_conflict();
+    let named: Vec<(u8, usize)> = (1..=8).map(|party| (party, 31)).collect();
+    let case = || "the longest conflict".to_string();
+    cases.same(merge_of(&lists), conflict(LAST_HEADER, &named), case);
+    let records = (1..=8).zip(&lists).map(|(party, list)| [vec![party], file(list)].concat());
+    let shown = model::program(&records.collect::<Vec<_>>().concat());
+    let last = "refused 0 10 ffffffffffffffffffffffff8801 1:31 2:31 3:31 4:31 5:31 6:31 7:31 8:31";
+    cases.same(shown.lines().last(), Some(last), case);
+}
+
+/// What a search finds, and what catches it: entry 1 matches no more than entry 0 does.
+fn what_a_search_finds(cases: &mut Cases) {
+    let list = [entry(only(4, 0, 9), 1), entry(only(4, 5, 9), 2), entry(only(4, 5, 20), 2)];
+    let protocol = |p, entry| Some(([0, 0, 0, 0, p, 0], entry));
+    for (first, want, found) in [
+        (0, Want::Uncaught, protocol(21, None)),
+        (0, Want::CaughtBy(0), protocol(0, Some(0))),
+        (5, Want::CaughtBy(0), protocol(5, Some(0))),
+        (0, Want::CaughtBy(1), None),
+        (0, Want::CaughtBy(2), protocol(10, Some(2))),
+        (0, Want::CaughtBy(3), None),
+        (5, Want::Differing(2), protocol(5, Some(0))),
+        (0, Want::Differing(1), protocol(10, Some(2))),
+        (10, Want::Differing(2), protocol(21, None)),
+    ] {
+        let case = || format!("{want:?} from protocol {first} on, an example of Wish 5");
+        let within = only(4, first, 255);
+        cases.same(model::search(&file(&list), &within, want), Ok(found), case);
+    }
 }
 
 // ---------------------------------------------------------------- small header spaces
@@ -589,7 +681,7 @@ fn small_spaces(cases: &mut Cases, wanted: usize) {
     let mut random = Random::new(1);
     let mut answers = [0usize; 4];
     let (mut apart, mut ways) = (Apart::default(), Ways::default());
-    let mut installs = Installs::default();
+    let (mut installs, mut conflicts) = (Installs::default(), BTreeMap::<&str, usize>::new());
     while cases.count < wanted {
         let sets = *random.pick(&[Sets::Any, Sets::With(4), Sets::OneOf(6, 12), Sets::OneOf(5, 6)]);
         let mut lists = vec![];
@@ -608,7 +700,7 @@ fn small_spaces(cases: &mut Cases, wanted: usize) {
                 Some(header) => Err(Refusal::Gap(header)),
                 None => Ok(()),
             };
-            cases.same(model::gap(&list), gap, || format!("gap of {list:?}"));
+            cases.same(model::gap(&list), gap.clone(), || format!("gap of {list:?}"));
             ways.gaps += matches!(gap, Err(Refusal::Gap(h)) if is_out(&h)) as usize;
             search(cases, (&bytes, &list), (&points, &all), (&mut apart, &mut ways), &mut random);
             let mut header = *random.pick(&all);
@@ -623,7 +715,9 @@ fn small_spaces(cases: &mut Cases, wanted: usize) {
                 lists.push(list);
             }
         }
-        let expected = merged(&lists, &points);
+        let parties = some_parties(lists.len(), &mut random);
+        let filed: Vec<Filed> = parties.into_iter().zip(slices(&lists)).collect();
+        let expected = merged(&filed, &points);
         let clash = least_clash(&lists, &all);
         match &expected {
             Ok(list) => {
@@ -633,28 +727,35 @@ fn small_spaces(cases: &mut Cases, wanted: usize) {
                     ways.merged += (merge_of(&both).as_ref() != Ok(list)) as usize;
                 }
             }
-            Err(Refusal::Conflict(h)) => {
+            Err(Refusal::Conflict(h, _)) => {
                 apart.conflicts += (clash != Some(*h)) as usize;
                 ways.conflicts += is_out(h) as usize;
+                for kind in naming::kinds(&filed, h) {
+                    *conflicts.entry(kind).or_default() += 1;
+                }
             }
             Err(_) => {}
         }
         answers[match &expected {
             Ok(_) => 0,
-            Err(Refusal::Conflict(_)) => 1,
+            Err(Refusal::Conflict(..)) => 1,
             Err(Refusal::Crowded) => 2,
             Err(_) => 3,
         }] += 1;
-        cases.same(merge_of(&lists), expected.clone(), || format!("merging of {lists:?}"));
+        let case = || format!("merging of {filed:?}");
+        cases.same(model::merged_list(&filed), expected.clone(), case);
         for _ in 0..3 {
             let ranking = some_ranking(&mut random);
-            install(cases, &lists, &expected, &ranking, &points, &mut installs);
+            install(cases, &filed, &expected, &ranking, &points, &mut installs);
         }
     }
     println!(
         "  small mergings: {} merged, {} conflicts, {} crowded, {} bare",
         answers[0], answers[1], answers[2], answers[3]
     );
+    println!("  conflicts whose entries could be named wrongly: {conflicts:?}");
+    // These lists are shorter than ten entries.
+    assert_eq!(conflicts.len(), naming::KINDS.len() - 1, "some conflict was never met");
     println!("  where it mattered what a header is: {apart:?}");
     let Apart { covering, headerless, searches, lookups, merged, conflicts } = apart;
     let counts = [covering, headerless, searches, lookups, merged, conflicts];
@@ -668,30 +769,31 @@ fn small_spaces(cases: &mut Cases, wanted: usize) {
 /// Installing lists whose merging is known.
 fn install(
     cases: &mut Cases,
-    lists: &[List],
+    filed: &[Filed],
     merged: &Result<List, Refusal>,
     ranking: &[u8],
     points: &[Header],
     installs: &mut Installs,
 ) {
     let expected = installed(merged.clone(), ranking, points);
-    let case = || format!("installing of {lists:?} by {ranking:?}");
-    cases.same(install_of(lists, ranking), expected.clone(), case);
+    let case = || format!("installing of {filed:?} by {ranking:?}");
+    cases.same(model::installed_list(filed, ranking), expected.clone(), case);
     match (&expected, merged) {
         (Ok(list), Ok(merged)) => {
-            promises(cases, lists, ranking, list, points);
+            promises(cases, filed, ranking, list, points);
             installs.as_long += (list.len() == merged.len()) as usize;
             installs.shorter += (list.len() < merged.len()) as usize;
             let turned = installed(Ok(merged.clone()), &turned(ranking), points);
             installs.turned += (turned.as_ref() != Ok(list)) as usize;
-            let working = model::working_list(&slices(lists)).expect("not crowded");
+            let lists: Vec<&[Entry]> = filed.iter().map(|(_, list)| *list).collect();
+            let working = model::working_list(&lists).expect("not crowded");
             let once = struck(keeping_foremost(&working, ranking), points);
             installs.struck_twice += (once != *list) as usize;
         }
         (Err(Refusal::Ranking), Ok(_)) => installs.no_ranking[0] += 1,
-        (Err(Refusal::Ranking), Err(Refusal::Conflict(_))) => installs.no_ranking[1] += 1,
+        (Err(Refusal::Ranking), Err(Refusal::Conflict(..))) => installs.no_ranking[1] += 1,
         (Err(Refusal::Ranking), Err(Refusal::Bare)) => installs.no_ranking[2] += 1,
-        (Err(Refusal::Conflict(_)), _) => installs.conflicts += 1,
+        (Err(Refusal::Conflict(..)), _) => installs.conflicts += 1,
         (Err(Refusal::Bare), _) => installs.bare += 1,
         _ => {}
     }
@@ -701,14 +803,14 @@ fn install(
 /// that the lists in force allow it, every header is caught, and no entry can be struck.
 fn promises(
     cases: &mut Cases,
-    lists: &[List],
+    filed: &[Filed],
     ranking: &[u8],
     installed: &List,
     points: &[Header],
 ) {
-    let best = |h: &Header| foremost(common_actions(lists, h), ranking);
+    let best = |h: &Header| foremost(common_actions(filed, h), ranking);
     let wrong = points.iter().find(|h| allowed(installed, h) != Some(best(h)));
-    let case = || format!("{installed:?}, installed of {lists:?} by {ranking:?}");
+    let case = || format!("{installed:?}, installed of {filed:?} by {ranking:?}");
     cases.same(wrong, None, case);
     cases.same(least_uncaught(installed, points), None, case);
     let needless = (0..installed.len()).find(|k| is_needless(installed, *k, points));
@@ -730,10 +832,9 @@ fn search(
         1 => Want::CaughtBy(random.below(8) as usize),
         _ => Want::Differing(*random.pick(&[0, 1, 4, 5, 6, 12])),
     };
-    let first = |h: &Header| list.iter().position(|e| holds(&e.selector, h));
     let wanted = |h: &&Header| match want {
-        Want::Uncaught => first(h).is_none(),
-        Want::CaughtBy(i) => first(h) == Some(i),
+        Want::Uncaught => catcher(list, h).is_none(),
+        Want::CaughtBy(i) => catcher(list, h) == Some(i),
         Want::Differing(set) => matched(list, h) != Some(set),
     };
     let find = |among: &[Header], within: &Box6| {
@@ -746,6 +847,7 @@ fn search(
         ways.searches += expected.take().is_some() as usize;
         leave_directions(&mut within, random);
     }
+    let expected = expected.map(|h| (h, catcher(list, &h)));
     cases.same(model::search(file, &within, want), Ok(expected), || {
         format!("{want:?} in {within:?} of {list:?}")
     });
@@ -790,8 +892,8 @@ fn written(
     };
     let expected = expected.and_then(fits);
     let counted = expected.as_ref().map(|list| (list.len(), file(list).len()));
-    cases.same(answer, counted.map_err(|refusal| *refusal), case);
-    let length = answer.map_or(0, |(_, length)| length);
+    let length = answer.as_ref().map_or(0, |(_, length)| *length);
+    cases.same(answer, counted.map_err(Refusal::clone), case);
     if let Ok(entries) = expected {
         let list = Versioned { version: 2, entries };
         cases.same(model::read(&buffer[..length], 256), Ok(list), case);
@@ -824,7 +926,9 @@ fn histories(cases: &mut Cases, wanted: usize) {
                 }
                 last
             };
-            let lists = || -> Vec<List> { (1..=8).filter_map(in_force).collect() };
+            let lists: Vec<(u8, List)> =
+                (1..=8).filter_map(|party| Some((party, in_force(party)?))).collect();
+            let filed: Vec<Filed> = lists.iter().map(|(party, list)| (*party, &list[..])).collect();
             match call {
                 Call::File { party, file } => {
                     if bench.file(*party, &file.0).is_ok() {
@@ -846,12 +950,12 @@ fn histories(cases: &mut Cases, wanted: usize) {
                         let has = |version| bench.versions().contains(&version) as usize;
                         merged[has(1) + 2 * has(2) - 1] += 1;
                     }
-                    written(cases, answer, &buffer, lent, merge_of(&lists()), &script);
+                    written(cases, answer, &buffer, lent, model::merged_list(&filed), &script);
                 }
                 Call::Install { ranking, buffer: lent } => {
                     let mut buffer = vec![lent.fill; lent.length];
                     let answer = bench.install(&ranking.0, &mut buffer);
-                    let expected = install_of(&lists(), &ranking.0);
+                    let expected = model::installed_list(&filed, &ranking.0);
                     written(cases, answer, &buffer, lent, expected, &script);
                 }
                 _ => unreachable!("only calls on the bench"),
@@ -917,6 +1021,9 @@ fn main() {
     refusals_of_installing(&mut cases);
     room_to_install(&mut cases);
     inbound_and_outbound(&mut cases);
+    whose_entries_clash(&mut cases);
+    longest_of_conflicts(&mut cases);
+    what_a_search_finds(&mut cases);
     small_spaces(&mut cases, wanted);
     histories(&mut cases, wanted / 12);
     round_trips(&mut cases, wanted / 90);

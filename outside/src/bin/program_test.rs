@@ -2,9 +2,10 @@
 
 use outside::entry::file;
 use outside::generate::{
-    any_list, filings_at_limit, long_input, program_input, single_ports, Sets,
+    any_list, filings_at_limit, long_input, longest_conflict, program_input, single_ports, Sets,
 };
-use outside::model;
+use outside::model::{self, Bench, Refusal, LONGEST_FILE};
+use outside::naming;
 use outside::process::{run, Run};
 use outside::random::Random;
 use outside::report::{hexadecimal, Cases};
@@ -36,6 +37,8 @@ fn chosen_inputs(random: &mut Random) -> Vec<Vec<u8>> {
         inputs.push([remote, local].concat());
     }
     inputs.extend((0..4).map(filings_at_limit));
+    let clash = (1..=8).zip(longest_conflict()).map(|(p, list)| [vec![p], file(&list)].concat());
+    inputs.push(clash.collect::<Vec<_>>().concat());
     for length in [LONGEST - 1, LONGEST, LONGEST + 1, LONGEST + 2, 3 * LONGEST] {
         inputs.push(long_input(length, random));
         inputs.push(vec![0; length]);
@@ -57,6 +60,19 @@ fn tally(output: &str, lines: &mut BTreeMap<String, usize>) {
     }
 }
 
+/// The kinds of the conflict that an input ends with, if it does.
+fn tally_conflict(input: &[u8], lines: &mut BTreeMap<String, usize>) {
+    let mut bench = Bench::default();
+    for (party, file) in model::framed(input) {
+        let _ = bench.file(party, file);
+    }
+    if let Err(Refusal::Conflict(header, _)) = bench.merge(&mut [0; LONGEST_FILE]) {
+        for kind in naming::kinds(&bench.in_force(), &header) {
+            *lines.entry(format!("refused 10 {kind}")).or_insert(0) += 1;
+        }
+    }
+}
+
 fn main() {
     let program = PathBuf::from(std::env::args().nth(1).expect("the program's path"));
     let mut cases = Cases::new("program_test", 900);
@@ -69,6 +85,9 @@ fn main() {
         let input = inputs.pop().unwrap_or_else(|| program_input(&mut random));
         let expected = model::program(&input);
         tally(&expected, &mut lines);
+        if expected.contains("refused 0 10 ") {
+            tally_conflict(&input, &mut lines);
+        }
         let (answer, time) = run(&program, &input, LIMIT);
         longest = longest.max(time);
         cases.same(answer, Run::Ended(expected), || hexadecimal(&input));

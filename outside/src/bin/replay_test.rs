@@ -4,9 +4,10 @@
 
 use outside::calls::call_list;
 use outside::entry::{file, file_in, is_both_ways, is_header, Box6, Entry, Header, ALL};
-use outside::entry::{DIRECTION, HEADER, OUT, RECORD, VERSIONS};
-use outside::generate::RISING;
-use outside::model::{holds, is_crossed, least_header, read, Bench, Refusal, LIST_LIMIT};
+use outside::entry::{DIRECTION, FIELDS, HEADER, OUT, RECORD, VERSIONS};
+use outside::generate::{longest_conflict, RISING};
+use outside::model::{catching, holds, is_crossed, least_header, read, Bench, Refusal, LIST_LIMIT};
+use outside::naming;
 use outside::process::{run, Run};
 use outside::random::Random;
 use outside::replay::{
@@ -30,7 +31,8 @@ const CALLS: [(u8, &str, &str); 14] = [
         3,
         "merge",
         "ok exact, ok longer, ok 256 entries, of version 1, of version 2, of both versions, no 8, \
-         no 9, no 10, no 10 out, no 11 one short, no 11 short",
+         no 9, no 10, no 10 out, no 10 past idle entries, no 10 matched again, no 10 parties apart, \
+         no 10 of three, no 10 past entry 9, no 11 one short, no 11 short",
     ),
     (
         4,
@@ -65,14 +67,18 @@ const CALLS: [(u8, &str, &str); 14] = [
     (
         10,
         "search",
-        "ok none, ok header, ok header out, ok no header, ok none above 1, of version 1, \
-         of version 2, no 1, no 2, no 3, no 4",
+        "ok none, ok header, ok header out, ok uncaught, ok wanted entry, \
+         ok wanted entry matched again, ok other set, ok other set matched again, \
+         ok other set uncaught, ok no header, ok none above 1, of version 1, of version 2, no 1, \
+         no 2, no 3, no 4",
     ),
     (
         11,
         "install",
         "ok exact, ok longer, ok 256 entries, ok too short for merging, of version 1, of version 2, \
-         of both versions, no 8, no 9, no 10, no 10 out, no 11 one short, no 11 short, no 12 empty, no 12 too few, no 12 too many, no 12 above 15, \
+         of both versions, no 8, no 9, no 10, no 10 out, no 10 past idle entries, no 10 matched again, \
+         no 10 parties apart, no 10 of three, no 10 past entry 9, \
+         no 11 one short, no 11 short, no 12 empty, no 12 too few, no 12 too many, no 12 above 15, \
          no 12 twice, no 12 alone, no 12 before 8, no 12 before 9, no 12 before 10, no 12 before 11",
     ),
     (
@@ -226,15 +232,53 @@ fn version_kind(call: &Call, kind: &str, bench: &Bench) -> Option<String> {
     Some(of_versions(&versions))
 }
 
+/// The header in a line of some kind, behind `ok` or the refusal's number.
+fn header_in(kind: &str, line: &str) -> Option<Header> {
+    let before = match kind {
+        "no 5" | "no 10" => 2,
+        "no 1 5" | "no 2 5" => 3,
+        "ok header" => 1,
+        _ => return None,
+    };
+    let words = line.split(' ').skip(before).take(FIELDS);
+    let numbers: Vec<u32> = words.map(|word| word.trim_end().parse().expect("a number")).collect();
+    Some(std::array::from_fn(|f| numbers[f]))
+}
+
+/// Which mistakes in the entries that an answer carries would show, and what was wanted of a search.
+fn naming_kinds(call: &Call, kind: &str, line: &str, bench: &Bench) -> Vec<String> {
+    let Some(header) = header_in(kind, line) else {
+        return vec![];
+    };
+    match call {
+        Call::Merge { .. } | Call::Install { .. } => {
+            let kinds = naming::kinds(&bench.in_force(), &header);
+            kinds.into_iter().map(|more| format!("{kind} {more}")).collect()
+        }
+        Call::Search { file, wanted, .. } => {
+            let list = read(&file.0, LIST_LIMIT).expect("a good file").entries;
+            let found = match (wanted.way, catching(&list, &header)) {
+                (0, _) => "uncaught",
+                (1, _) => "wanted entry",
+                (_, None) => "other set uncaught",
+                (_, Some(_)) => "other set",
+            };
+            let again =
+                if naming::is_matched_again(&list, &header) { " matched again" } else { "" };
+            vec![format!("ok {found}{again}")]
+        }
+        _ => vec![],
+    }
+}
+
 /// What an answer has to do with directions: a header that is out, a written list that is refused for
 /// its directions, a table's entry that would catch but for a direction above 1.
 fn direction_kind(call: &Call, kind: &str, line: &str) -> Option<String> {
+    if let Some(header) = header_in(kind, line) {
+        return (header[DIRECTION] == OUT).then(|| format!("{kind} out"));
+    }
     let said = line.split(" = ").next().unwrap_or_default().trim_end();
     match (call, kind) {
-        (Call::File { .. }, "no 5")
-        | (Call::Merge { .. } | Call::Install { .. }, "no 10")
-        | (Call::Compare { .. }, "ok header" | "no 1 5" | "no 2 5")
-        | (Call::Search { .. }, "ok header") => said.ends_with(" 1").then(|| format!("{kind} out")),
         (Call::Write { count, list, .. }, "no 2") => {
             let is_counted = (1..=LIST_LIMIT).contains(count);
             let crossed = list.iter().any(|e| is_crossed(&e.selector));
@@ -273,7 +317,8 @@ fn kinds(call: &Call, line: &str, bench: &Bench) -> Vec<String> {
         _ => vec![kind(call.number(), line)],
     };
     let more = [direction_kind(call, &kinds[0], line), version_kind(call, &kinds[0], bench)];
-    kinds.extend(more.into_iter().flatten());
+    let naming = naming_kinds(call, &kinds[0], line, bench);
+    kinds.extend(more.into_iter().flatten().chain(naming));
     kinds
 }
 
@@ -484,6 +529,13 @@ fn limits(test: &mut Test) {
     let mut cut = vec![0; LONGEST_INPUT];
     cut[LONGEST_INPUT - 1] = 2;
     test.check("a long list, cut short", &cut);
+    // The most that a conflict can carry.
+    let file_all = (1..=8).zip(longest_conflict());
+    let mut clash: Vec<Call> =
+        file_all.map(|(party, list)| Call::File { party, file: Bytes(file(&list)) }).collect();
+    clash.push(Call::Merge { buffer });
+    clash.push(Call::Install { ranking: Bytes(RISING.to_vec()), buffer });
+    test.check("a conflict of eight parties", &opened(&clash));
     // More output than a pipe or a buffer holds.
     let merging = Call::Merge { buffer: Buffer { length: LONGEST_BUFFER, fill: 0x5a } };
     test.check("many long lines", &opened(&vec![merging; 300]));

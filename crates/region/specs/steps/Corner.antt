@@ -29,6 +29,11 @@ abbrev pub improves : Header → Found → Bool
 improves h Nothing = true
 improves h (At g) = before h g
 
+-- a header was found that comes before best
+abbrev pub sooner : Found → Found → Bool
+sooner (At h) best = improves h best
+sooner Nothing best = false
+
 -- the box s holds the low corner of b
 abbrev pub holdsCorner : Box → Box → Bool
 holdsCorner s b = inside arity s (lows arity b)

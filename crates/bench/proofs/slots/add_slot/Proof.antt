@@ -3,11 +3,12 @@
 use borrow.Author.Needs.{needs}
 use Prim.Native.Nat.{ℕ}
 use native.Mathlib.Omega.{arith}
-use mathlib.Core.Path.{_≡_}
+use mathlib.Core.Path.{_≡_, _∙_, ap}
 use lib.ListN.{length}
 use borrow.Author.Needs.{length-unmapped}
-use Rattle.reconcile.specs.steps.Stage.{stageIn}
-use Rattle.bench.proofs.Slotting.{slot-adds}
+use Rattle.policy.specs.Header.{headers}
+use Rattle.reconcile.specs.steps.Stage.{stageIn, added}
+use Rattle.bench.proofs.Slotting.{slot-lends}
 use Rattle.bench.proofs.slots.add_slot.Statement.{statement}
 use Rattle.bench.proofs.slots.add_slot.Tie as tie
 
@@ -33,7 +34,7 @@ add-list-requires c κs = search needs
 returns : tie.Need-returns
 returns c =
     let g = c .before .before .before .before .before .before in
-    slot-adds (stageIn (g .args .s)) (stageIn (c .add-list .result)) (g .args .slot) _ (slot-size g) (c .before .before .before .before .before .file-end .ensures) (c .add-list .ensures)
+    c .add-list .ensures ∙ ap (added headers (stageIn (g .args .s))) (slot-lends (g .args .slot) _ (slot-size g) (c .before .before .before .before .before .file-end .ensures))
 
 pub add-slot-spec : {M : Type 1} → statement M
 add-slot-spec =

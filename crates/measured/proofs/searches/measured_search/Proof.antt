@@ -26,8 +26,8 @@ search-file-requires c κs = search needs
 enum-told : tie.Need-enum-told
 enum-told c = search needs
 
-enum-known-h : tie.Need-enum-known-h
-enum-known-h c = search needs
+enum-known-header : tie.Need-enum-known-header
+enum-known-header c = search needs
 
 put-header-requires : tie.Need-put-header-requires
 put-header-requires c κs = search needs
@@ -67,7 +67,7 @@ measured-search-spec =
     want-of-requires
     search-file-requires
     enum-told
-    enum-known-h
+    enum-known-header
     put-header-requires
     enum-known-r
     number-of-requires

@@ -21,7 +21,7 @@ least-treated-requires : tie.Need-least-treated-requires
 least-treated-requires c κs = search needs
 
 returns : tie.Need-returns
-returns c = let s = c .before .before .before .before .before .args .rows .now in conflict-search s (rowsIn s) _ _ (c .before .before .before .whole .ensures) (c .least-treated .ensures)
+returns c = let s = c .before .before .before .before .before .args .rows .now in conflict-search s (rowsIn s) _ _ (c .before .before .before .whole .ensures) (c .least-treated .ensures .header)
 
 pub least-conflict-spec : {M : Type 1} → statement M
 least-conflict-spec =

@@ -1,5 +1,5 @@
 -- A crossed box holds nothing; each want is a search that stands already.
-use Rattle.region.proofs.Searching.{box-crossed, as-wanted}
+use Rattle.region.proofs.Searching.{box-crossed, uncaught-wanted, entry-wanted, other-set-wanted}
 use borrow.Author.Needs.{needs}
 use Rattle.region.proofs.search.search_good.Statement.{statement}
 use Rattle.region.proofs.search.search_good.Tie as tie
@@ -29,13 +29,13 @@ least-differing-requires : tie.Need-least-differing-requires
 least-differing-requires c κs = search needs
 
 returns-2 : tie.Need-returns-2
-returns-2 c = search as-wanted
+returns-2 c = search uncaught-wanted
 
 returns-3 : tie.Need-returns-3
-returns-3 c = search as-wanted
+returns-3 c = search entry-wanted
 
 returns-4 : tie.Need-returns-4
-returns-4 c = search as-wanted
+returns-4 c = search other-set-wanted
 
 pub search-good-spec : {M : Type 1} → statement M
 search-good-spec =

@@ -14,6 +14,9 @@ put-filed-requires c κs = search needs
 enum-known-answer-2 : tie.Need-enum-known-answer-2
 enum-known-answer-2 c = search needs
 
+none-named-requires : tie.Need-none-named-requires
+none-named-requires c κs = search needs
+
 put-refused-requires : tie.Need-put-refused-requires
 put-refused-requires c κs = search needs
 
@@ -36,6 +39,7 @@ put-filing-spec =
     enum-known-answer
     put-filed-requires
     enum-known-answer-2
+    none-named-requires
     put-refused-requires
     same-length
     returns

@@ -12,8 +12,8 @@ add-slots-requires c κs = search needs
 end-merging-requires : tie.Need-end-merging-requires
 end-merging-requires c κs = search needs
 
-answer-of-requires : tie.Need-answer-of-requires
-answer-of-requires c κs = search needs
+result-of-requires : tie.Need-result-of-requires
+result-of-requires c κs = search needs
 
 same-length : tie.Need-same-length
 same-length c = search needs
@@ -23,9 +23,9 @@ returns c =
     let g = c .before .before .before .before .before .before .before .before .before .before in
     let s = c .before .before .before .before .before .before .add-slots in
     let m = c .before .before .before .end-merging in
-    merge-right (g .args .«self») (g .args .out .now) (m .last .1 .1 .0) (stageIn (s .result)) (s .ensures) (m .result) (c .answer-of .result) (c .answer-of .ensures) (m .ensures)
+    merge-right (g .args .«self») (g .args .out .now) (m .last .1 .1 .0) (stageIn (s .result)) (s .ensures) (m .result) (c .result-of .result) (c .result-of .ensures) (m .ensures)
 
 pub merge-spec : {M : Type 1} → statement M
 merge-spec =
     tie.close
-    (tie.spec add-slots-requires end-merging-requires answer-of-requires same-length returns)
+    (tie.spec add-slots-requires end-merging-requires result-of-requires same-length returns)
