@@ -177,7 +177,7 @@ module _ (buffer : List ℕ) where
 -- ---- with what a conflict names
 
 module _ (k : Book) (buffer : List ℕ) where
-  abbrev answerNaming : Merging → Answer
+  abbrev pub answerNaming : Merging → Answer
   answerNaming r = also (answerOf r buffer) (entriesFor k (answerOf r buffer))
 
   pub told-conflict : (r : Merging) (h : Header) → answerNaming r ≡ conflictAnswer k h → r ≡ refused (Conflict h)

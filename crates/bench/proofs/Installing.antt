@@ -27,10 +27,10 @@ use Rattle.reconcile.proofs.Merging.{merging-cases, merged-covers, merged-acts,
 use Rattle.reconcile.proofs.Installing.{best-of-some, bestAllowed, installed-allows, installed-covers, installed-irredundant, installed-tells, refused-tells}
 use Rattle.bench.specs.Demand3.{Accepted}
 use Rattle.bench.specs.Book.{Book, inForce}
-use Rattle.bench.specs.Answers.{also, conflictAnswer, entriesFor, installingOf}
+use Rattle.bench.specs.Answers.{conflictAnswer, installingOf}
 use Rattle.bench.specs.Installing.{BestCommon, InstalledList, Keeps, Installing}
 use Rattle.bench.proofs.Fitting.{AllListsFit, ReadsBack, merged-fit, allowed-fits, installed-reads-back}
-use Rattle.bench.proofs.Demand3.{shows-needed, conflict-least, least-conflicts, merges-when, left-alone, read-again, told-conflict, told-other, told-written, written-plainly, conflict-answer, conflict-evidence}
+use Rattle.bench.proofs.Demand3.{shows-needed, conflict-least, least-conflicts, merges-when, left-alone, read-again, answerNaming, told-conflict, told-other, told-written, written-plainly, conflict-answer, conflict-evidence}
 
 -- ---- the installed list
 
@@ -78,7 +78,7 @@ never-ranking ranking ps e =
 module _ (ranking : List ℕ) (k : Book) (buffer : List ℕ) where
   -- what is said of an installing that the rules bring to x
   abbrev Kept : List (List Entry) → Merging → Type 0
-  Kept ps x = Keeps ranking k ps buffer (also (answerOf x buffer) (entriesFor k (answerOf x buffer))) (ifAccepted (answerOf x buffer) (placed (fileFor x) buffer) buffer)
+  Kept ps x = Keeps ranking k ps buffer (answerNaming k buffer x) (ifAccepted (answerOf x buffer) (placed (fileFor x) buffer) buffer)
 
   no-ranking-kept : (ps : List (List Entry)) → isRanking ranking ≡ false → Kept ps (refused Ranking)
   no-ranking-kept ps n = record {
@@ -106,7 +106,7 @@ module _ (ranking : List ℕ) (k : Book) (buffer : List ℕ) where
     conflict-shown = λ h e. conflict-evidence k buffer p ps is h (tells h e) covering;
     otherwise = λ t within none.
         let m = merges-when p ps covering within none in
-        subst (λ (y : Merging). Accepted y buffer (also (answerOf x buffer) (entriesFor k (answerOf x buffer))) (ifAccepted (answerOf x buffer) (placed (fileFor x) buffer) buffer)) (sym q)
+        subst (λ (y : Merging). Accepted y buffer (answerNaming k buffer x) (ifAccepted (answerOf x buffer) (placed (fileFor x) buffer) buffer)) (sym q)
         (written-plainly k buffer x (struck headers (map (withBest ranking) (m .0))) (ap (installed headers ranking) (m .1)));
     installed-list = λ n l e.
         let w = told-written k buffer x n l e in
@@ -117,12 +117,12 @@ module _ (ranking : List ℕ) (k : Book) (buffer : List ℕ) where
       x : Merging
       x = installed headers ranking (mergeOf headers (p ∷ ps))
 
-      tells : (h : Header) → also (answerOf x buffer) (entriesFor k (answerOf x buffer)) ≡ conflictAnswer k h → Conflicts headers p ps h
+      tells : (h : Header) → answerNaming k buffer x ≡ conflictAnswer k h → Conflicts headers p ps h
       tells h e = conflict-tells headers p ps h (refused-tells headers ranking (mergeOf headers (p ∷ ps)) (Conflict h) (told-conflict k buffer x h e))
 
-      named : (h : Header) → Conflicts headers p ps h → also (answerOf x buffer) (entriesFor k (answerOf x buffer)) ≡ conflictAnswer k h
+      named : (h : Header) → Conflicts headers p ps h → answerNaming k buffer x ≡ conflictAnswer k h
       named h c =
-          ap (λ (y : Merging). let a = answerOf (installed headers ranking y) buffer in also a (entriesFor k a)) (conflict-made headers p ps h c)
+          ap (λ (y : Merging). answerNaming k buffer (installed headers ranking y)) (conflict-made headers p ps h c)
           ∙ conflict-answer k buffer p ps is h c
 
       back : ReadsBack x

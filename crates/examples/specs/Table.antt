@@ -14,7 +14,7 @@ use Rattle.policy.specs.Header.{header, everything, headers}
 use Rattle.policy.specs.Least.{least}
 use Rattle.policy.specs.Actions.{discard, bypass}
 use Rattle.policy.specs.Entry.{entry, crossed}
-use Rattle.policy.specs.Policy.{missed}
+use Rattle.policy.specs.Policy.{catcher, missed}
 use Rattle.lookup.specs.Lookup.{headerCatcher}
 use Rattle.region.proofs.Model.{gap-is}
 use Rattle.reconcile.specs.Rules.{refused, merged, mergeOf}
@@ -104,6 +104,10 @@ pub p6 : mergeOf headers ((all bypass ∷ []) ∷ (all discard ∷ []) ∷ []) �
 unfolding headers
 p6 = mergeBy-is headers ((all bypass ∷ []) ∷ (all discard ∷ []) ∷ [])
 
+-- the entries that clash there (02, Wish 5), each in its list
+pub p6-entries : (catcher (all bypass ∷ []) (at 0 0 0 0 0) ≡ By 0) × (catcher (all discard ∷ []) (at 0 0 0 0 0) ≡ By 0)
+p6-entries = (refl, refl)
+
 -- policies A and B of 004's appendix: ESP transport is bit 2, the net is 10.1.*.*, and A3 allows x
 abbrev espTransport : ℕ
 espTransport = 4
@@ -127,6 +131,10 @@ pub p7 : mergeOf headers (policyA bypass ∷ policyB ∷ []) ≡ refused (Confli
 unfolding headers
 p7 = mergeBy-is headers (policyA bypass ∷ policyB ∷ [])
 
+-- A's third entry and B's second, the pair C32
+pub p7-entries : (catcher (policyA bypass) (at 0 0 0 0 1) ≡ By 2) × (catcher policyB (at 0 0 0 0 1) ≡ By 1)
+p7-entries = (refl, refl)
+
 -- P8. The same with A3 allowing bypass and discard: three entries, C11, C21, C42.
 abbrev policyD : List Entry
 policyD =
@@ -148,6 +156,9 @@ p9 = mergeBy-is headers ((all discard ∷ all bypass ∷ []) ∷ [])
 pub p10-before : mergeOf headers ((protocols (range 1 1) 0 ∷ all discard ∷ []) ∷ []) ≡ refused (Conflict (at 0 0 0 0 1))
 unfolding headers
 p10-before = mergeBy-is headers ((protocols (range 1 1) 0 ∷ all discard ∷ []) ∷ [])
+
+pub p10-entry : catcher (protocols (range 1 1) 0 ∷ all discard ∷ []) (at 0 0 0 0 1) ≡ By 0
+p10-entry = refl
 
 pub p10-after : mergeOf headers ((all discard ∷ protocols (range 1 1) 0 ∷ []) ∷ []) ≡ merged (all discard ∷ [])
 unfolding headers

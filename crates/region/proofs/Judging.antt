@@ -20,7 +20,7 @@ use Rattle.policy.specs.Least.{leastIn}
 use Rattle.policy.specs.Actions.{subset}
 use Rattle.policy.specs.Entry.{selector}
 use Rattle.policy.specs.Policy.{catcher, missed}
-use Rattle.policy.specs.Refusals.{numbers, accepted}
+use Rattle.policy.specs.Refusals.{accepted}
 use Rattle.policy.proofs.Bool.{and-left}
 use Rattle.policy.proofs.Branch.{crossed-none}
 use Rattle.policy.proofs.Slices.{length-rows, rows-split, rows-take}
@@ -28,7 +28,7 @@ use Rattle.region.specs.declared.treated.Sets.{Sets}
 use Rattle.region.specs.declared.treated.Sets.the-variants.{Same, Other, Lacking}
 use Rattle.policy.specs.Sides.{boxOf}
 use Rattle.policy.specs.steps.Rows.{rowSize, rowAt, rowsFrom, rowsIn}
-use Rattle.lookup.specs.Lookup.{caughtValues}
+use Rattle.region.specs.Search.{withCatcher}
 use Rattle.region.specs.steps.Treated.{wanted, findingAnswer}
 use Rattle.region.proofs.Catching.{left-caught-by}
 use Rattle.region.proofs.Uses.{leftIn, judged-wanted, judged-passed, judged-end, judged-exhausted}
@@ -228,7 +228,7 @@ row-part hs s at n front x p best found k m f =
 
 -- ---- a search's answer
 
-pub answer-at : (f : Found) (c : Caught) (h : Header) → f ≡ At h → accepted (numbers h ++ caughtValues c) ≡ findingAnswer f c
+pub answer-at : (f : Found) (c : Caught) (h : Header) → f ≡ At h → withCatcher h c ≡ findingAnswer f c
 answer-at f c h e = ap (λ (f : Found). findingAnswer f c) (sym e)
 
 pub answer-none : (f : Found) (c : Caught) → f ≡ Nothing → accepted [] ≡ findingAnswer f c

@@ -18,7 +18,7 @@ use Rattle.policy.specs.Direction.{crossedBox}
 use Rattle.policy.specs.Least.{leastIn}
 use Rattle.policy.specs.Entry.{selector}
 use Rattle.policy.specs.Policy.{catcher, missed}
-use Rattle.policy.specs.Refusals.{numbers, refusal, accepted}
+use Rattle.policy.specs.Refusals.{refusal}
 use Rattle.policy.specs.steps.Findings.{lesser}
 use Rattle.policy.proofs.Least.{lesser-last}
 use Rattle.policy.proofs.Branch.{found-has}
@@ -32,9 +32,8 @@ use Rattle.wire.proofs.Entries.{length-entries, first-split}
 use Rattle.region.specs.declared.search.Want.{Want}
 use Rattle.region.specs.declared.search.Want.the-variants.{Uncaught, CaughtBy, Differs}
 use Rattle.region.specs.declared.search.Searched.{Searched}
-use Rattle.lookup.specs.Lookup.{caughtValues}
 use Rattle.region.specs.declared.treated.Finding.{Finding}
-use Rattle.region.specs.Search.{treated, leastInBox, foundAnswer, searchOf, searched}
+use Rattle.region.specs.Search.{treated, leastInBox, withCatcher, foundAnswer, searchOf, searched}
 use Rattle.region.specs.steps.Corner.{sooner}
 use Rattle.region.specs.steps.Treated.{Finds, findingAnswer}
 use Rattle.region.proofs.Uses.{caught-by, caught-by-none}
@@ -104,7 +103,7 @@ finding-answers p least f i = ap (λ (c : Found). findingAnswer c (f .by)) (i .h
     go finding.Nothing e = refl
     go (finding.At h) e =
         let q = i .header ∙ lesser-last least ∙ e in
-        ap (λ (c : Caught). accepted (numbers h ++ caughtValues c)) (i .entry h q (ap (λ (c : Found). sooner c finding.Nothing) q))
+        ap (withCatcher h) (i .entry h q (ap (λ (c : Found). sooner c finding.Nothing) q))
 
 module _ (s : List ℕ) (b : Box) (want : Want) (r : Checked) (e : checked r ≡ checksOf s listLimit) where
   pub file-refused : (x : Refusal) → r ≡ Refused x → refusal x ≡ searchOf s b want

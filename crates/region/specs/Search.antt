@@ -42,9 +42,13 @@ treated (Differs s) p h = differsFrom s (allowed p h)
 abbrev pub leastInBox : Box → (Header → Bool) → Found
 leastInBox b P = cond (crossedBox b) finding.Nothing (leastIn headers b P)
 
--- a finding in 01's terms: the header, and after it the number of the entry that catches it in the list (02, Wish 5), nothing for "uncaught"; or none
+-- a header, and behind it the number of the entry that catches it (02, Wish 5), nothing for "uncaught"
+abbrev pub withCatcher : Header → Caught → Answer
+withCatcher h c = accepted (numbers h ++ caughtValues c)
+
+-- a finding in 01's terms: the header and what catches it in the list, or none
 abbrev pub foundAnswer : List Entry → Found → Answer
-foundAnswer p (finding.At h) = accepted (numbers h ++ caughtValues (catcher p h))
+foundAnswer p (finding.At h) = withCatcher h (catcher p h)
 foundAnswer p finding.Nothing = accepted []
 
 -- checks 1 to 4 with up to 256 entries, and then the least such header of the box
@@ -53,6 +57,6 @@ searchOf s b want = firstOf (fileChecks s listLimit) (foundAnswer (listIn s) (le
 
 -- the answer of a search in 01's terms
 abbrev pub searched : Searched → Answer
-searched (At h c) = accepted (numbers h ++ caughtValues c)
+searched (At h c) = withCatcher h c
 searched Nothing = accepted []
 searched (Refused r) = refusal r

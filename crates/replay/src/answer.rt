@@ -76,9 +76,9 @@ fn print_caught(c: Caught) {
 // A party's number and that of the entry named, if one is.
 fn print_named(party: usize, c: Caught) {
     match c {
-        Caught::By(_) => {
+        Caught::By(i) => {
             print_number(party as u64);
-            print_caught(c);
+            print_number(i as u64);
         }
         Caught::Uncaught => {}
     }

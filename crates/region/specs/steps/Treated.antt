@@ -2,7 +2,7 @@
 use Prim.Native.Nat.{ℕ}
 use mathlib.Core.Bool.{Bool, true, not}
 use mathlib.Core.Path.{_≡_}
-use mathlib.Core.List.{List, [], _∷_, _++_}
+use mathlib.Core.List.{List, [], _∷_}
 use lib.Dec.{eqb}
 use Rattle.policy.specs.declared.header.Header.{Header}
 use Rattle.policy.specs.declared.header.Found.{Found}
@@ -11,12 +11,12 @@ use Rattle.policy.specs.declared.entry.Entry.{Entry}
 use Rattle.policy.specs.declared.entry.Caught.{Caught}
 use Rattle.policy.specs.Actions.{subset}
 use Rattle.policy.specs.Policy.{catcher, Allowed, actions, uncaught}
-use Rattle.policy.specs.Refusals.{Answer, numbers, accepted}
+use Rattle.policy.specs.Refusals.{Answer, accepted}
 use Rattle.policy.specs.steps.Findings.{lesser}
-use Rattle.lookup.specs.Lookup.{caughtValues}
 use Rattle.region.specs.declared.treated.Sets.{Sets}
 use Rattle.region.specs.declared.treated.Sets.the-variants.{Same, Other, Lacking}
 use Rattle.region.specs.declared.treated.Finding.{Finding}
+use Rattle.region.specs.Search.{withCatcher}
 use Rattle.region.specs.steps.Corner.{sooner}
 
 -- the set a is wanted
@@ -46,5 +46,5 @@ pub record Finds (p : List Entry) (least best : Found) (r : Finding) : Type 0 wh
 
 -- both in 01's terms
 abbrev pub findingAnswer : Found → Caught → Answer
-findingAnswer (At h) c = accepted (numbers h ++ caughtValues c)
+findingAnswer (At h) c = withCatcher h c
 findingAnswer Nothing c = accepted []
