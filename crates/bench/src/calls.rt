@@ -19,44 +19,44 @@ use reconcile::stage::ROWS;
 use region::covering::check_list;
 use wire::check::Checked;
 
-#[derive(Drop)]
+#[derive(Clone, Copy)]
 pub struct Bench {
     pub slots: [Slot; 8],
 }
 
-#[derive(Drop)]
+#[derive(Clone, Copy)]
 pub enum FileAnswer {
     // The number of entries.
     Filed(usize),
     Refused(Refusal),
 }
 
-#[derive(Drop)]
+#[derive(Clone, Copy)]
 pub struct FileResult {
     pub bench: Bench,
     pub answer: FileAnswer,
 }
 
-#[derive(Drop)]
+#[derive(Clone, Copy)]
 pub enum WithdrawAnswer {
     Withdrawn,
     Refused(Refusal),
 }
 
-#[derive(Drop)]
+#[derive(Clone, Copy)]
 pub struct WithdrawResult {
     pub bench: Bench,
     pub answer: WithdrawAnswer,
 }
 
-#[derive(Drop)]
+#[derive(Clone, Copy)]
 pub enum MergeAnswer {
     // The number of entries and the length of the file.
     Merged { count: usize, length: usize },
     Refused(Refusal),
 }
 
-#[derive(Drop)]
+#[derive(Clone, Copy)]
 pub struct MergeResult {
     pub bench: Bench,
     pub answer: MergeAnswer,

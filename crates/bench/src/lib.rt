@@ -1,4 +1,6 @@
 // The bench: the lists of up to 8 parties, filed, withdrawn and merged.
+#![tactic(auto)]
+
 pub mod calls;
 pub mod named;
 pub mod round_trips;

@@ -16,7 +16,7 @@ use reconcile::cross::filed_count;
 use reconcile::ending::Merged;
 
 // The entry of a party's list in force that catches the header of a conflict. Uncaught where the party has no list in force, and where there is no conflict.
-#[derive(Drop)]
+#[derive(Clone, Copy)]
 pub struct Named {
     pub entry: Caught,
 }

@@ -15,7 +15,7 @@ use wire::put::put_bytes;
 pub const SLOT_SIZE: usize = FILED_SIZE;
 
 // The bytes of a party's filed list, as many as length says; 0 where the party has none.
-#[derive(Drop)]
+#[derive(Clone, Copy)]
 pub struct Slot {
     pub bytes: [u8; SLOT_SIZE],
     pub length: usize,

@@ -1,5 +1,7 @@
 // Checks 1 to 4 at their boundaries.
 // A line has the case's name, the refusal's number, 0 for none, and the value that the answer carries: the number of entries, or the first crossed entry.
+#![tactic(auto)]
+
 ghost use Rattle.std.specs.Prelude.{◌≤◌};
 
 use libc::STDOUT_FILENO;

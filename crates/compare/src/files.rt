@@ -13,7 +13,7 @@ use wire::check::Checked;
 use wire::format::{FILED_LIMIT, LIST_LIMIT};
 use wire::record::records_in;
 
-#[derive(Drop)]
+#[derive(Clone, Copy)]
 pub enum Compared {
     // The first file refines the second.
     Yes,

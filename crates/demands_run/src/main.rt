@@ -1,4 +1,6 @@
 // Demand 2's round trips, a short list of calls, installs and trials, on small files of both versions. A line has what was answered, and whether the bytes are the file's own.
+#![tactic(auto)]
+
 use bench::calls::{Bench, MergeAnswer};
 use bench::round_trips::{reread_list, rewrite_file};
 use bench::sequence::file_twice_and_merge;

@@ -1,2 +1,4 @@
 // What the gateway's C daemon calls; include/dunnarek/policy.h declares it.
+#![tactic(auto)]
+
 pub mod exports;

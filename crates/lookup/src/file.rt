@@ -12,7 +12,7 @@ use wire::check::{Checked, check_file};
 use wire::format::{LIST_LIMIT, record_size};
 use wire::record::record_place;
 
-#[derive(Drop)]
+#[derive(Clone, Copy)]
 pub enum Looked {
     // The number of the entry that catches the header.
     Entry(usize),

@@ -1,4 +1,6 @@
 // Lookups on 01's examples P1, P2 and P5, of combinations that are no headers, and on damaged files: a line for each, with the answer and the bytes of the record that is handed back.
+#![tactic(auto)]
+
 ghost use Rattle.std.specs.Prelude.{◌<◌};
 
 use libc::STDOUT_FILENO;

@@ -1,4 +1,6 @@
 // The program on each input of data/, one after the other.
+#![tactic(auto)]
+
 fn run_file(path: &[u8]) {
     let descriptor = os::open_read(path);
     if descriptor < 0 {

@@ -12,7 +12,7 @@ use crate::sides::{ROW, SIDES, is_inside, row_sides};
 
 // Laid out as in C, which may lend a table of them.
 #[repr(C)]
-#[derive(Drop)]
+#[derive(Clone, Copy)]
 pub struct Entry {
     pub local_low: u32,
     pub local_high: u32,
@@ -30,7 +30,7 @@ pub struct Entry {
 }
 
 // The number of the entry that catches a header, if one does.
-#[derive(Drop)]
+#[derive(Clone, Copy)]
 pub enum Caught {
     By(usize),
     Uncaught,

@@ -8,7 +8,7 @@ ghost use Rattle.policy.specs.Sides.{box_of};
 use crate::sides::{FIELDS, SIDES, low, precede};
 
 // Six numbers. Not every combination of them is a header: ports.rt.
-#[derive(Drop)]
+#[derive(Clone, Copy)]
 pub struct Header {
     pub local: u32,
     pub remote: u32,
@@ -20,7 +20,7 @@ pub struct Header {
 }
 
 // A header that was looked for, or none.
-#[derive(Drop)]
+#[derive(Clone, Copy)]
 pub enum Found {
     At(Header),
     Nothing,

@@ -1,4 +1,6 @@
 // Headers, rows, entries, action sets, rankings and refusals: the words that every other crate speaks in.
+#![tactic(auto)]
+
 pub mod actions;
 pub mod direction;
 pub mod entry;

@@ -12,7 +12,7 @@ use crate::sides::{greater, is_between, lesser};
 const WITH_PORTS: [u32; 5] = [6, 17, 33, 132, 136];
 
 // Protocols from the first to the last. There are none, if the last is before the first.
-#[derive(Drop)]
+#[derive(Clone, Copy)]
 pub struct Protocols {
     pub first: u32,
     pub last: u32,

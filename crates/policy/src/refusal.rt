@@ -4,7 +4,7 @@ ghost use Rattle.policy.specs.Refusals.{refusal};
 
 use crate::header::Header;
 
-#[derive(Drop)]
+#[derive(Clone, Copy)]
 pub enum Refusal {
     Missized,
     Version,

@@ -18,7 +18,7 @@ use policy::refusal::Refusal;
 use wire::format::{MERGED_VERSION, file_size};
 use wire::write::put_entries;
 
-#[derive(Drop)]
+#[derive(Clone, Copy)]
 pub enum Merged {
     // The file's entry count and length.
     Done { count: usize, length: usize },

@@ -1,4 +1,6 @@
 // Merging: crossing, dropping, conflict, striking; installing.
+#![tactic(auto)]
+
 pub mod cross;
 pub mod ending;
 pub mod install;

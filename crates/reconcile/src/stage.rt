@@ -18,7 +18,7 @@ use wire::rows::put_row;
 // As many numbers as the rows of the longest list have.
 pub const ROWS: usize = ROW * LIST_LIMIT;
 
-#[derive(Drop)]
+#[derive(Clone, Copy)]
 pub struct Stage {
     // The working list, in the first places.
     pub entries: [Entry; LIST_LIMIT],

@@ -53,7 +53,7 @@ fn is_needless(rows: &[u32], k: usize, top: usize, n: usize) -> bool
 }
 
 // Entries of which those from a place on are left.
-#[derive(Drop)]
+#[derive(Clone, Copy)]
 pub struct Struck {
     pub entries: [Entry; LIST_LIMIT],
     pub first: usize,

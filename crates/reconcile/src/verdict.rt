@@ -17,7 +17,7 @@ use policy::sides::ROW;
 use wire::format::LIST_LIMIT;
 use wire::rows::put_row;
 
-#[derive(Drop)]
+#[derive(Clone, Copy)]
 pub enum Verdict {
     Refused(Refusal),
     Merges,

@@ -34,7 +34,7 @@ pub(crate) fn keep_up_to(b: &mut [u32; SIDES], s: &[u32; SIDES], f: usize)
 }
 
 // A field's number and its rank.
-#[derive(Drop)]
+#[derive(Clone, Copy)]
 pub struct Candidate {
     pub field: usize,
     pub rank: u32,

@@ -1,4 +1,6 @@
 // The search of a region: the least header of a box that no row of two lists matches, and what is answered by it.
+#![tactic(auto)]
+
 pub mod corner;
 pub mod covering;
 pub mod cut;

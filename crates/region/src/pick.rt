@@ -15,7 +15,7 @@ use policy::header::{Found, low_corner};
 use policy::sides::{FIELDS, ROW, SIDES, high, high_at, low, row_sides};
 
 // The number of a row that holds the low corner of a box; or no row holds it; or the rows hold all of the box.
-#[derive(Drop)]
+#[derive(Clone, Copy)]
 pub enum Picked {
     Held(usize),
     Free,
@@ -23,7 +23,7 @@ pub enum Picked {
 }
 
 // A row that holds a corner: its number and its weight, or that it holds all of the box.
-#[derive(Drop)]
+#[derive(Clone, Copy)]
 pub struct Choice {
     pub number: usize,
     pub weight: f64,

@@ -22,7 +22,7 @@ use wire::format::LIST_LIMIT;
 use wire::record::entry_in;
 
 // What is looked for.
-#[derive(Drop)]
+#[derive(Clone, Copy)]
 pub enum Want {
     // Not caught.
     Uncaught,
@@ -32,7 +32,7 @@ pub enum Want {
     Differs(u16),
 }
 
-#[derive(Drop)]
+#[derive(Clone, Copy)]
 pub enum Searched {
     // The header, and the entry that catches it.
     At { header: Header, entry: Caught },

@@ -19,7 +19,7 @@ use policy::sides::{ROW, SIDES, actions_at, meets_row, part_in_row};
 use std::num::wrapping_add_u32;
 
 // The action sets that are wanted.
-#[derive(Drop)]
+#[derive(Clone, Copy)]
 pub enum Sets {
     // The set alone.
     Same(u32),
@@ -30,7 +30,7 @@ pub enum Sets {
 }
 
 // What a search hands up: the header that it found, and what catches that header in the list searched.
-#[derive(Drop)]
+#[derive(Clone, Copy)]
 pub struct Finding {
     pub found: Found,
     pub by: Caught,

@@ -7,7 +7,7 @@ use crate::input::{
 use crate::print::{print_bytes, print_end};
 use bench::calls::{Bench, MergeResult};
 
-#[derive(Drop)]
+#[derive(Clone, Copy)]
 pub struct Step {
     pub bench: Bench,
     pub end: usize,

@@ -1,4 +1,6 @@
 // Replays calls given on standard input, and writes a line for each: see docs/REPLAY.md.
+#![tactic(auto)]
+
 mod answer;
 mod bench_calls;
 mod file_calls;

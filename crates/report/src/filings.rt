@@ -8,7 +8,7 @@ use crate::frame::file_end;
 use crate::line::put_filing;
 use bench::calls::Bench;
 
-#[derive(Drop)]
+#[derive(Clone, Copy)]
 pub struct Filings {
     pub bench: Bench,
     // The place behind the lines.

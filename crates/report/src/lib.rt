@@ -1,4 +1,6 @@
 // The program's report: its whole output, from its input.
+#![tactic(auto)]
+
 pub mod filings;
 mod frame;
 mod line;

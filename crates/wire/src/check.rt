@@ -11,7 +11,7 @@ use crate::number::read2;
 use crate::record::record_place;
 use policy::refusal::Refusal;
 
-#[derive(Drop)]
+#[derive(Clone, Copy)]
 pub enum Checked {
     // The number of entries.
     Good(usize),

@@ -1,4 +1,6 @@
 // The file: its numbers, records and checks, reading it and writing it.
+#![tactic(auto)]
+
 pub mod check;
 mod crossed;
 pub mod format;

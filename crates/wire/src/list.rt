@@ -6,7 +6,7 @@ use crate::format::{LIST_LIMIT, MERGED_VERSION};
 use policy::entry::Entry;
 
 // A list of up to 256 entries, in the first places, and the version of its file.
-#[derive(Drop)]
+#[derive(Clone, Copy)]
 pub struct Entries {
     pub version: u8,
     pub entries: [Entry; LIST_LIMIT],

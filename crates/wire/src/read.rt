@@ -9,7 +9,7 @@ use crate::list::{EMPTY, Entries, no_entries};
 use crate::record::entry_in;
 
 // What checks 1 to 4 answer, and the list; no entries where the file is refused.
-#[derive(Drop)]
+#[derive(Clone, Copy)]
 pub struct Reading {
     pub list: Entries,
     pub answer: Checked,

@@ -15,7 +15,7 @@ use crate::put::{put_entry, put_head};
 use policy::entry::{Entry, is_crossed};
 use policy::refusal::Refusal;
 
-#[derive(Drop)]
+#[derive(Clone, Copy)]
 pub enum Written {
     // The file's length.
     Done(usize),
