@@ -109,7 +109,7 @@ fn refusal_of(bench: Bench, r: Refusal) -> MergeResult
 impl Bench {
     // A bench with no filings.
     pub fn open() -> Bench
-        ensures value { result ≡ open_bench }
+        ensures empty { result ≡ open_bench }
         ensures traced { bench_after [] ≡ result }
     {
         let vacant = vacant_slot();
@@ -118,7 +118,7 @@ impl Bench {
 
     // Files a list for a party, over the one that it has.
     pub fn file(mut self, party: u8, bytes: &[u8]) -> FileResult
-        ensures fact { ◌≡◌ {A = Result} (filed result.answer, result.bench, []) (result_of self (filing party bytes.now)) }
+        ensures answers { ◌≡◌ {A = Result} (filed result.answer, result.bench, []) (result_of self (filing party bytes.now)) }
         ensures traced { (cs : List Call) → bench_after cs ≡ self → bench_after (cs ++ (filing party bytes.now ∷ [])) ≡ result.bench }
     {
         if party < 1 {
@@ -153,7 +153,7 @@ impl Bench {
 
     // Ends a party's list.
     pub fn withdraw(mut self, party: u8) -> WithdrawResult
-        ensures fact { ◌≡◌ {A = Result} (withdrew result.answer, result.bench, []) (result_of self (withdrawal party)) }
+        ensures answers { ◌≡◌ {A = Result} (withdrew result.answer, result.bench, []) (result_of self (withdrawal party)) }
         ensures traced { (cs : List Call) → bench_after cs ≡ self → bench_after (cs ++ (withdrawal party ∷ [])) ≡ result.bench }
     {
         if party < 1 {
@@ -186,7 +186,7 @@ impl Bench {
 
     // Merges the lists in force into a lent buffer.
     pub fn merge(self, out: &mut [u8]) -> MergeResult
-        ensures fact { ◌≡◌ {A = Result} (merged_as result.answer result.named, result.bench, out.new) (result_of self (merging out.old)) }
+        ensures answers { ◌≡◌ {A = Result} (merged_as result.answer result.named, result.bench, out.new) (result_of self (merging out.old)) }
         ensures traced { (cs : List Call) → bench_after cs ≡ self
             → (bench_after (cs ++ (merging out.old ∷ [])) ≡ result.bench)
             × Demand3 (book_after cs) out.old (merged_as result.answer result.named) out.new }
@@ -200,7 +200,7 @@ impl Bench {
 
     // Installs the lists in force into a lent buffer: merges them, leaves each entry the action of its set that stands first in a ranking, and strikes again.
     pub fn install(self, ranking: &[u8], out: &mut [u8]) -> MergeResult
-        ensures fact { ◌≡◌ {A = Result} (merged_as result.answer result.named, result.bench, out.new) (result_of self (installing ranking.now out.old)) }
+        ensures answers { ◌≡◌ {A = Result} (merged_as result.answer result.named, result.bench, out.new) (result_of self (installing ranking.now out.old)) }
         ensures traced { (cs : List Call) → bench_after cs ≡ self
             → (bench_after (cs ++ (installing ranking.now out.old ∷ [])) ≡ result.bench)
             × Installing ranking.now (book_after cs) out.old (merged_as result.answer result.named) out.new }
@@ -217,7 +217,7 @@ impl Bench {
 
     // Tries a filing: files on a copy of the bench and merges the copy. The bench itself stays as it is.
     pub fn trial(self, party: u8, bytes: &[u8], out: &mut [u8]) -> MergeResult
-        ensures fact { ◌≡◌ {A = Result} (merged_as result.answer result.named, result.bench, out.new) (result_of self (trying party bytes.now out.old)) }
+        ensures answers { ◌≡◌ {A = Result} (merged_as result.answer result.named, result.bench, out.new) (result_of self (trying party bytes.now out.old)) }
         ensures traced { (cs : List Call) → bench_after cs ≡ self
             → (bench_after (cs ++ (trying party bytes.now out.old ∷ [])) ≡ result.bench)
             × Trying party bytes.now (book_after cs) out.old (merged_as result.answer result.named) out.new }

@@ -8,7 +8,7 @@ use crate::calls::{Bench, MergeResult};
 
 // Two filings, a withdrawal and a merging on one bench.
 pub fn file_twice_and_merge(first: &[u8], second: &[u8], out: &mut [u8]) -> MergeResult
-    ensures fact { ◌≡◌ {A = Result} (merged_as result.answer result.named, result.bench, out.new)
+    ensures answers { ◌≡◌ {A = Result} (merged_as result.answer result.named, result.bench, out.new)
         (result_of (bench_after (filing 1 first.now ∷ filing 2 second.now ∷ withdrawal 1 ∷ [])) (merging out.old)) }
     ensures demand { Demand3 (book_after (filing 1 first.now ∷ filing 2 second.now ∷ withdrawal 1 ∷ [])) out.old (merged_as result.answer result.named) out.new }
 {

@@ -25,7 +25,7 @@ pub const REPORT_SIZE: usize = 998711;
 
 // Puts as much of the report at the start of the lent buffer as there is room for, and answers how much that is.
 pub fn report(input: &[u8], out: &mut [u8]) -> usize
-    ensures fact { ◌≡◌ {A = ℕ × List ℕ} (result, out.new)
+    ensures printed { ◌≡◌ {A = ℕ × List ℕ} (result, out.new)
         (min (length (report_of input.now)) (length out.old), with_text out.old 0 (report_of input.now)) }
     ensures whole { report_size ≤ length out.old → take result out.new ≡ report_of input.now }
 {

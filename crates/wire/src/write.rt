@@ -85,7 +85,7 @@ pub fn put_entries(
 
 // Writes a list as a file of its version to the start of a buffer.
 pub fn write_list(list: Entries, buffer: &mut [u8]) -> Written
-    ensures buffer_after { writing result buffer.new ≡ writing_of list buffer.old }
+    ensures written { writing result buffer.new ≡ writing_of list buffer.old }
     ensures again { ReadAgain list result buffer.new }
 {
     if !is_version(list.version) {
