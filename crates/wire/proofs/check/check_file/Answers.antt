@@ -22,19 +22,19 @@ pub returns-then-not-is_version : goal.returns-then-not-is_version
 returns-then-not-is_version c =
     let s = c.args.file.now in
     let limit = c.args.limit in
-    has_version s limit (sized s (search rules) (search rules)) (other_version s _ c.is_version.ensures c.if-not-is_version.true)
+    has_version s limit (sized s (search rules) (search rules)) (other_version s _ c.is_version.ensures c.if-not-is_version.true-raw)
 
 pub returns-then-n-lt1 : goal.returns-then-n-lt1
 returns-then-n-lt1 c =
     let s = c.args.file.now in
     let limit = c.args.limit in
-    has_count s limit (sized s (search rules) (search rules)) (right_version s _ c.is_version.ensures c.if-not-is_version.false) (bad_limits s limit (none_outside limit (count_in s) (search rules)))
+    has_count s limit (sized s (search rules) (search rules)) (right_version s _ c.is_version.ensures c.if-not-is_version.false-raw) (bad_limits s limit (none_outside limit (count_in s) (search rules)))
 
 pub returns-then-limit-n : goal.returns-then-limit-n
 returns-then-limit-n c =
     let s = c.args.file.now in
     let limit = c.args.limit in
-    has_count s limit (sized s (search rules) (search rules)) (right_version s _ c.is_version.ensures c.if-not-is_version.false) (bad_limits s limit (past_outside limit (count_in s) (search rules)))
+    has_count s limit (sized s (search rules) (search rules)) (right_version s _ c.is_version.ensures c.if-not-is_version.false-raw) (bad_limits s limit (past_outside limit (count_in s) (search rules)))
 
 pub overflow_mul-record_size : goal.overflow_mul-record_size
 overflow_mul-record_size c =
@@ -46,7 +46,7 @@ returns-then-length-record_size c =
     let s = c.args.file.now in
     let limit = c.args.limit in
     let e = times_count s _ _ c.record_size.ensures c.read2-n.ensures in
-    has_count s limit (sized s (search rules) (search rules)) (right_version s _ c.is_version.ensures c.if-not-is_version.false) (miscounted s limit (search rules))
+    has_count s limit (sized s (search rules) (search rules)) (right_version s _ c.is_version.ensures c.if-not-is_version.false-raw) (miscounted s limit (search rules))
 
 pub check_entries-requires : goal.check_entries-requires
 check_entries-requires c =
@@ -59,6 +59,6 @@ returns c =
     let s = c.args.file.now in
     let limit = c.args.limit in
     let e = times_count s _ _ c.record_size.ensures c.read2-n.ensures in
-    by_entries s limit (sized s (search rules) (search rules)) (right_version s _ c.is_version.ensures c.if-not-is_version.false)
+    by_entries s limit (sized s (search rules) (search rules)) (right_version s _ c.is_version.ensures c.if-not-is_version.false-raw)
     (counted s limit (within_limits limit (count_in s) (search rules) (search rules)) (search rules))
     _ _ c.read2-n.ensures c.check_entries.ensures

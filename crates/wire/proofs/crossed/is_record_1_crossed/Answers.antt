@@ -12,4 +12,4 @@ returns-then-not-are_ports_proper c = search by_ports
 pub returns : goal.returns
 returns c =
     let a = c.args in
-    by_protocol_alone a.s.now a.at _ c.are_addresses_proper.ensures _ c.are_ports_proper.ensures c.if-not-are_addresses_proper.false c.if-not-are_ports_proper.false
+    by_protocol_alone a.s.now a.at _ c.are_addresses_proper.ensures _ c.are_ports_proper.ensures c.if-not-are_addresses_proper.false-raw c.if-not-are_ports_proper.false-raw

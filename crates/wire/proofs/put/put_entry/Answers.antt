@@ -23,13 +23,13 @@ put_bytes-requires-else-version-eq1 c = omega (arith, size_other c.args.version 
 pub returns-then-version-eq1 : goal.returns-then-version-eq1
 returns-then-version-eq1 c =
     let a = c.args in
-    record_put a.version a.e a.buffer.now c.put_bytes.new.0 _ (bytes2 a.e.actions) a.at (search rules) (rest_of_one a.version a.e c.if-version-eq1.true)
+    record_put a.version a.e a.buffer.now c.put_bytes.new.buffer _ (bytes2 a.e.actions) a.at (search rules) (rest_of_one a.version a.e c.if-version-eq1.true)
     (c.put_bytes.ensures ∙ ap (λ (b : List ℕ). paste a.buffer.now a.at b (length b)) c.ranges_of-ranges.ensures)
-    (c.put_bytes-then-version-eq1.ensures ∙ ap (λ (b : List ℕ). paste c.put_bytes.new.0 (a.at + 26) b (length b)) c.set_bytes-set.ensures)
+    (c.put_bytes-then-version-eq1.ensures ∙ ap (λ (b : List ℕ). paste c.put_bytes.new.buffer (a.at + 26) b (length b)) c.set_bytes-set.ensures)
 
 pub returns-else-version-eq1 : goal.returns-else-version-eq1
 returns-else-version-eq1 c =
     let a = c.args in
-    record_put a.version a.e a.buffer.now c.put_bytes.new.0 _ (a.e.direction_low ∷ a.e.direction_high ∷ bytes2 a.e.actions) a.at (search rules) (rest_of_other a.version a.e c.if-version-eq1.false)
+    record_put a.version a.e a.buffer.now c.put_bytes.new.buffer _ (a.e.direction_low ∷ a.e.direction_high ∷ bytes2 a.e.actions) a.at (search rules) (rest_of_other a.version a.e c.if-version-eq1.false)
     (c.put_bytes.ensures ∙ ap (λ (b : List ℕ). paste a.buffer.now a.at b (length b)) c.ranges_of-ranges.ensures)
-    (c.put_bytes-else-version-eq1.ensures ∙ ap (λ (t : List ℕ). paste c.put_bytes.new.0 (a.at + 26) (a.e.direction_low ∷ a.e.direction_high ∷ get_or t 0 0 ∷ get_or t 1 0 ∷ []) 4) c.set_bytes-set.ensures)
+    (c.put_bytes-else-version-eq1.ensures ∙ ap (λ (t : List ℕ). paste c.put_bytes.new.buffer (a.at + 26) (a.e.direction_low ∷ a.e.direction_high ∷ get_or t 0 0 ∷ get_or t 1 0 ∷ []) 4) c.set_bytes-set.ensures)

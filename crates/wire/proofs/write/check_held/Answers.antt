@@ -11,17 +11,13 @@ use Rattle.wire.proofs.Records.{fit_more}
 use Rattle.wire.proofs.Checks.{scanned_crossed, scanned_next, scanned_all}
 use Rattle.wire.proofs.write.check_held.Goals as goal
 
--- the length of the array, from what owning the list tells
-places : (c : goal.Start invariant-loop decreases-loop) → length c.args.t1.entries ≡ 256
-places c = simp length-map at c.well-formed.0.1.1.1.0.1.0.1
-
 pub returns-then-is_entry_crossed : goal.returns-then-is_entry_crossed
 returns-then-is_entry_crossed c =
     let l = c.loop-i in
-    let es = c.args.t1.entries in
-    let n = c.args.t1.count in
-    let v = c.args.t1.version in
-    let k = places c in
+    let es = c.args.list.entries in
+    let n = c.args.list.count in
+    let v = c.args.list.version in
+    let k : length es ≡ 256 = search rules in
     let more : l.i < length (take n es) = rw (length-take-le n es (omega arith)) (omega arith) in
     let test = ap (crossed_in v) (get_or-take n es l.i zero_entry (omega arith)) ∙ sym c.is_entry_crossed.ensures.0 in
     (scanned_crossed (crossed_in v) (take n es) l.i zero_entry more l.invariant.1.0 n (test ∙ c.if-is_entry_crossed.true), tt)
@@ -29,10 +25,10 @@ returns-then-is_entry_crossed c =
 pub loop-i-preserved : goal.loop-i-preserved
 loop-i-preserved c =
     let l = c.loop-i in
-    let es = c.args.t1.entries in
-    let n = c.args.t1.count in
-    let v = c.args.t1.version in
-    let k = places c in
+    let es = c.args.list.entries in
+    let n = c.args.list.count in
+    let v = c.args.list.version in
+    let k : length es ≡ 256 = search rules in
     let more : l.i < length (take n es) = rw (length-take-le n es (omega arith)) (omega arith) in
     let test = ap (crossed_in v) (get_or-take n es l.i zero_entry (omega arith)) ∙ sym c.is_entry_crossed.ensures.0 in (
       search rules,
@@ -45,10 +41,10 @@ loop-i-preserved c =
 pub returns : goal.returns
 returns c =
     let l = c.loop-i in
-    let es = c.args.t1.entries in
-    let n = c.args.t1.count in
-    let v = c.args.t1.version in
-    let k = places c in
+    let es = c.args.list.entries in
+    let n = c.args.list.count in
+    let v = c.args.list.version in
+    let k : length es ≡ 256 = search rules in
     let end : l.i ≡ n = omega arith in (
       scanned_all (crossed_in v) (take n es) n l.i (rw (length-take-le n es (omega arith)) (omega arith)) l.invariant.1.0,
       subst (λ (k : ℕ). AllFit (take k es)) end l.invariant.1.1,

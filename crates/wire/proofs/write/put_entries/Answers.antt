@@ -9,14 +9,10 @@ use Rattle.wire.proofs.Lists.{zero_entry}
 use Rattle.wire.proofs.Writing.{begun_none, begun_next, begun_all}
 use Rattle.wire.proofs.write.put_entries.Goals as goal
 
--- the length of the array, from what owning it tells
-places : (c : goal.Start invariant-loop decreases-loop) → length c.args.t1 ≡ 256
-places c = c.well-formed.0.1.0.1
-
 pub loop-i-init : goal.loop-i-init
 loop-i-init c =
     let a = c.args in
-    (search rules, (begun_none a.version (a.to - a.from) (slice a.from a.to a.t1) a.buffer.now _ c.put_head.ensures, refl))
+    (search rules, (begun_none a.version (a.to - a.from) (slice a.from a.to a.entries) a.buffer.now _ c.put_head.ensures, refl))
 
 pub put_entry-requires : goal.put_entry-requires
 put_entry-requires c =
@@ -27,12 +23,12 @@ put_entry-requires c =
 pub loop-i-preserved : goal.loop-i-preserved
 loop-i-preserved c =
     let l = c.loop-i in
-    let k = places c in
-    (search rules, (begun_next c.args.version (c.args.to - c.args.from) c.args.from c.args.to c.args.t1 zero_entry c.put_head.new.0 l.buffer _ l.i _ (omega arith) (omega arith) c.file_size.ensures l.invariant.1.0 c.put_entry.ensures, search rules))
+    let k : length c.args.entries ≡ 256 = search rules in
+    (search rules, (begun_next c.args.version (c.args.to - c.args.from) c.args.from c.args.to c.args.entries zero_entry c.put_head.new.buffer l.buffer _ l.i _ (omega arith) (omega arith) c.file_size.ensures l.invariant.1.0 c.put_entry.ensures, search rules))
 
 pub returns : goal.returns
 returns c =
     let l = c.loop-i in
     let a = c.args in
-    let k = places c in
-    begun_all a.version (a.to - a.from) (slice a.from a.to a.t1) a.buffer.now _ l.buffer l.i (omega arith) (length-slice a.from a.to a.t1 (omega arith)) c.put_head.ensures l.invariant.1.0
+    let k : length c.args.entries ≡ 256 = search rules in
+    begun_all a.version (a.to - a.from) (slice a.from a.to a.entries) a.buffer.now _ l.buffer l.i (omega arith) (length-slice a.from a.to a.entries (omega arith)) c.put_head.ensures l.invariant.1.0
