@@ -77,10 +77,8 @@ fn set_number(buffer: &mut [u8], at: usize, number: u16)
 fn set_record(buffer: &mut [u8], at: usize)
     requires { at ≤ 10000 }
 {
-    let mut i: usize = 0;
-    while i < 28 {
+    for i in 0..28 {
         set_byte(buffer, at + i, RECORD[i]);
-        i += 1;
     }
 }
 
@@ -96,10 +94,8 @@ fn set_file(buffer: &mut [u8], n: u16)
     requires { n ≤ 257 }
 {
     set_head(buffer, 3 + 28 * n, 1, n);
-    let mut i: usize = 0;
-    while i < n as usize {
+    for i in 0..n as usize {
         set_record(buffer, 5 + 28 * i);
-        i += 1;
     }
 }
 
@@ -108,23 +104,20 @@ fn set_wide_file(buffer: &mut [u8], n: u16)
     requires { n ≤ 257 }
 {
     set_head(buffer, 3 + 30 * n, 2, n);
-    let mut i: usize = 0;
-    while i < n as usize {
+    for i in 0..n as usize {
         set_record(buffer, 5 + 30 * i);
         set_number(buffer, 31 + 30 * i, 1);
         set_number(buffer, 33 + 30 * i, 1);
-        i += 1;
     }
 }
 
 // A range with both ends 0, or its low 1 above its high; the low's bytes start at a place.
 fn set_range(buffer: &mut [u8], at: usize, width: usize, low: u8)
-    requires { (at ≤ 10000) × (width ≤ 4) }
+    requires near { at ≤ 10000 }
+    requires narrow { width ≤ 4 }
 {
-    let mut i: usize = 0;
-    while i < width {
+    for i in 0..width {
         set_byte(buffer, at + width + i, 0);
-        i += 1;
     }
     if 0 < width {
         set_byte(buffer, at + width - 1, low);
@@ -246,7 +239,9 @@ fn try_crossed(
     at: usize,
     width: usize,
 ) -> io::Result<()>
-    requires { (entry ≤ 2) × ((at ≤ 27) × (width ≤ 4)) }
+    requires held { entry ≤ 2 }
+    requires near { at ≤ 27 }
+    requires narrow { width ≤ 4 }
 {
     set_file(buffer, 3);
     set_range(buffer, 5 + 28 * entry + at, width, 1);

@@ -51,13 +51,11 @@ fn print_bytes(rt: &impl Print, s: &[u8]) -> io::Result<()> {
 // The bytes of up to 64 pairs of hexadecimal digits, in the first places.
 fn bytes_of(text: &[u8]) -> [u8; 64] {
     let mut bytes = [0u8; 64];
-    let mut i = 0;
-    while i < 64 {
+    for i in 0..64 {
         if text.len() / 2 <= i {
             return bytes;
         }
         bytes[i] = digit_value(text[2 * i]) * 16 + digit_value(text[2 * i + 1]);
-        i += 1;
     }
     bytes
 }
