@@ -18,6 +18,6 @@ pub loop-count-preserved : goal.loop-count-preserved
 loop-count-preserved g c = record {
   within = search rules;
   bytes =
-    subst (Consumes _ _) (sym (front_more _ _ _ _ _ c.loop-count.invariant.within c.in_ok-n.ensures.within))
-    (Consumes-trans _ _ _ _ _ c.loop-count.invariant.bytes c.in_ok-n.ensures.bytes);
+      subst (Consumes _ _) (sym (front_more _ _ _ _ _ c.loop-count.invariant.within c.in_ok-n.ensures.within))
+      (Consumes-trans _ _ _ _ _ c.loop-count.invariant.bytes c.in_ok-n.ensures.bytes);
 }
