@@ -82,12 +82,8 @@ fn print_named(rt: &impl Print, party: usize, c: Caught) -> io::Result<()> {
 
 // The entries that a conflict names, of party 1 on.
 fn print_entries(rt: &impl Print, named: [Named; 8]) -> io::Result<()> {
-    let mut i: usize = 0;
-    while i < 8 {
-        let n = named[i];
-        let entry = n.entry;
-        i += 1;
-        print_named(rt, i, entry)?;
+    for (i, n) in named.iter().enumerate() {
+        print_named(rt, i + 1, n.entry)?;
     }
     Ok(())
 }

@@ -45,17 +45,16 @@ fn put_byte(text: &mut [u8], at: usize, b: u8)
 
 // Bytes in hexadecimal, as many as the text has room for. Answers how long they are there.
 fn put_hex(text: &mut [u8], s: &[u8]) -> usize
-    ensures { (result ≤ length text.old) × (length text.new ≡ length text.old) }
+    ensures within { result ≤ length text.old }
+    ensures same_length { length text.new ≡ length text.old }
 {
     let mut at: usize = 0;
-    let mut i: usize = 0;
-    while i < s.len() {
+    for b in s {
         if text.len() - at < 2 {
             return at;
         }
-        put_byte(text, at, s[i]);
+        put_byte(text, at, *b);
         at += 2;
-        i += 1;
     }
     at
 }
