@@ -26,7 +26,7 @@ pub write_merged-requires : goal.write_merged-requires
 write_merged-requires c = (c.install_best-again.ensures.0, omega (arith, c.judge_stage.ensures.few (search rules)))
 
 pub returns-in-Refused : goal.returns-in-Refused
-returns-in-Refused c = ends_refused _ _ _ c.args.buffer.now c.judge_stage.ensures (installed headers c.args.ranking.now) c.r-1.given.0.0 (search rules) refl
+returns-in-Refused c = ends_refused _ _ _ c.args.buffer.now c.judge_stage.ensures (installed headers c.args.ranking.now) c.in-Refused.r c.in-Refused.is refl
 
 pub returns-in-Merges : goal.returns-in-Merges
 returns-in-Merges c =

@@ -16,7 +16,7 @@ pub write_merged-requires : goal.write_merged-requires
 write_merged-requires c = (c.strike_entries-left.ensures.0, c.judge_stage.ensures.few (search rules))
 
 pub returns-in-Refused : goal.returns-in-Refused
-returns-in-Refused c = ends_refused _ _ _ c.args.buffer.now c.judge_stage.ensures (λ m. m) c.r-1.given.0.0 (search rules) refl
+returns-in-Refused c = ends_refused _ _ _ c.args.buffer.now c.judge_stage.ensures (λ m. m) c.in-Refused.r c.in-Refused.is refl
 
 pub returns-in-Merges : goal.returns-in-Merges
 returns-in-Merges c = ends_merged _ _ _ c.args.buffer.now c.judge_stage.ensures (λ m. m) _ _ (search rules) (ap merged c.strike_entries-left.ensures.1) c.write_merged.ensures

@@ -7,7 +7,7 @@ use Rattle.reconcile.proofs.install.choose_best.Goals as goal
 
 pub loop-i-init : goal.loop-i-init
 loop-i-init c =
-    (search rules, simp length-map at c.well-formed.0.1.1.0.1.0.1, moved_none c.args.ranking.now c.args.left.entries c.args.left.first)
+    (search rules, search rules, moved_none c.args.ranking.now c.args.left.entries c.args.left.first)
 
 pub loop-i-preserved : goal.loop-i-preserved
 loop-i-preserved c =

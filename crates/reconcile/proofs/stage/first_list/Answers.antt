@@ -10,7 +10,7 @@ use Rattle.reconcile.proofs.Staging.{filed_entry, first_shadowed, first_kept, fi
 use Rattle.reconcile.proofs.stage.first_list.Goals as goal
 
 pub loop-j-init : goal.loop-j-init
-loop-j-init c = (search rules, search rules, search rules, keeps_none _ _ c.well-formed.0.1.0.1 (search rules))
+loop-j-init c = (search rules, search rules, search rules, keeps_none _ _ search rules (search rules))
 
 pub entry_in-e-requires : goal.entry_in-e-requires
 entry_in-e-requires c = search (filed_entry, rules)

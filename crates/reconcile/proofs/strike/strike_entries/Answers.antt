@@ -7,8 +7,8 @@ use Rattle.reconcile.proofs.strike.strike_entries.Goals as goal
 
 pub loop-k-init : goal.loop-k-init
 loop-k-init c =
-    let k : length c.args.t1 ≡ 256 = c.well-formed.0.1.0.1 in
-    (refl, examined_none c.args.rows.now c.args.t1 c.args.n c.requires.1.1 c.requires.1.0 (omega arith))
+    let k : length c.args.entries ≡ 256 = search rules in
+    (refl, examined_none c.args.rows.now c.args.entries c.args.n c.requires.1.1 c.requires.1.0 (omega arith))
 
 pub loop-k-preserved-then-not-is_needless : goal.loop-k-preserved-then-not-is_needless
 loop-k-preserved-then-not-is_needless c = (search rules, search (pass_kept, rules))
@@ -20,4 +20,4 @@ pub returns : goal.returns
 returns c =
     let l = c.loop-k in
     let a = c.args in
-    examined_all a.t1 l.entries l.rows a.n l.top l.k l.invariant.1 (search rules)
+    examined_all a.entries l.entries l.rows a.n l.top l.k l.invariant.1 (search rules)
