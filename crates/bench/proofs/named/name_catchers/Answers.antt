@@ -1,6 +1,5 @@
 use borrow.Author.Rules.{rules}
 use native.Mathlib.Omega.{arith}
-use Prim.Native.Nat.{◌-◌}
 use mathlib.Core.Path.{refl}
 use Rattle.bench.proofs.Naming.{names_more, names_all}
 use Rattle.bench.proofs.named.name_catchers.Goals as goal

@@ -1,6 +1,5 @@
 use borrow.Author.Rules.{rules}
 use native.Mathlib.Omega.{arith}
-use Prim.Native.Nat.{◌-◌}
 use Rattle.reconcile.specs.steps.Stage.{stage_in}
 use Rattle.reconcile.proofs.Staging.{added_crowded, added_few}
 use Rattle.bench.proofs.Slotting.{staged_vacant, staged_next, staged_all}

@@ -1,5 +1,4 @@
 use borrow.Author.Rules.{rules}
-use Prim.Native.Nat.{◌-◌}
 use native.Mathlib.Omega.{arith}
 use Rattle.compare.proofs.TooMuch.{found_none, found_next, found_all}
 use Rattle.compare.proofs.excess.least_excess.Goals as goal

@@ -1,5 +1,4 @@
 use borrow.Author.Rules.{rules}
-use Prim.Native.Nat.{◌-◌}
 use Rattle.reconcile.proofs.Pairs.{apart_none, apart_next}
 use Rattle.reconcile.proofs.cross.next_meeting.Goals as goal
 

@@ -3,7 +3,7 @@ use native.Mathlib.Omega.{arith}
 use borrow.Author.Rules.{rules}
 use mathlib.Core.Path.{◌≡◌}
 use Prim.Native.Nat.{◌-◌}
-use lib.ListN.{length, length-map}
+use lib.ListN.{length}
 use lib.Seq.{slice, length-slice}
 use Rattle.reconcile.proofs.Writing.{narrow_made, done_made}
 use Rattle.reconcile.proofs.ending.write_merged.Goals as goal

@@ -1,7 +1,5 @@
 use borrow.Author.Rules.{rules}
 use native.Mathlib.Omega.{arith}
-use Prim.Native.Nat.{◌-◌}
-use lib.ListN.{length-map}
 use Rattle.reconcile.proofs.Choosing.{moved_none, moved_more, moved_all}
 use Rattle.reconcile.proofs.install.choose_best.Goals as goal
 

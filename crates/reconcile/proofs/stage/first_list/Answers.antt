@@ -2,7 +2,7 @@ use borrow.Author.Rules.{rules}
 use mathlib.Core.Option.{some}
 use Rattle.policy.specs.Header.{headers}
 use Rattle.reconcile.specs.Rules.{trimmed, limited}
-use Prim.Native.Nat.{ℕ, ◌-◌}
+use Prim.Native.Nat.{ℕ}
 use mathlib.Core.Path.{◌∙◌, ap}
 use Rattle.wire.specs.Format.{entries_from}
 use Rattle.reconcile.proofs.Keeping.{keeps_none}

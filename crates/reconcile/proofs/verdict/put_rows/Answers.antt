@@ -1,6 +1,5 @@
 use borrow.Author.Rules.{rules}
 use Rattle.wire.proofs.Lists.{zero_entry}
-use Prim.Native.Nat.{◌-◌}
 use mathlib.Core.Path.{refl}
 use Rattle.reconcile.proofs.Beside.{beside_more, beside_all}
 use Rattle.reconcile.proofs.verdict.put_rows.Goals as goal

@@ -1,7 +1,7 @@
 -- Each arm puts what follows its refusal; the other refusals have nothing to follow.
 -- Assumes nothing.
 use mathlib.Core.Path.{◌≡◌, refl, sym}
-use mathlib.Core.List.{List, [], ◌∷◌}
+use mathlib.Core.List.{List, []}
 use Prim.Native.Nat.{ℕ}
 use Rattle.policy.specs.declared.header.Header.{Header}
 use Rattle.policy.specs.declared.refusal.Refusal.{Refusal}

@@ -1,4 +1,3 @@
-use Prim.Native.Nat.{◌-◌}
 use borrow.Author.Rules.{rules}
 use Rattle.report.proofs.Buffer.{none, keeps, within}
 use Rattle.report.proofs.EntriesText.{named_more, named_all}

@@ -1,4 +1,3 @@
-use Prim.Native.Nat.{◌-◌}
 use borrow.Author.Rules.{rules}
 use Rattle.report.proofs.Buffer.{none, keeps, within}
 use Rattle.report.proofs.Digits.{byte_more, all_bytes}

@@ -1,7 +1,6 @@
 -- The checks in their order; the bench goes on with any list of calls that led to it.
 -- Assumes nothing.
 use Rattle.bench.proofs.Calling.{file_low, file_high, good_fits, file_refused, file_accepted}
-use borrow.Author.Rules.{rules}
 use Rattle.bench.proofs.calls.Bench.file.Goals as goal
 
 pub returns-then-party-lt1 : goal.returns-then-party-lt1
