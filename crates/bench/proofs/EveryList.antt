@@ -44,7 +44,11 @@ refused_changes_nothing b (trying p s buffer) e = (refl, go (is_accepted (filing
 -- the calls before some are handed bytes if all are
 bytes_before : (xs ys : List Call) → AllBytes (xs ++ ys) → AllBytes xs
 bytes_before [] ys b = tt
-bytes_before (x ∷ xs) ys b = (b.0, bytes_before xs ys b.1)
+bytes_before (filing p s ∷ xs) ys b = (b.0, bytes_before xs ys b.1)
+bytes_before (withdrawal p ∷ xs) ys b = bytes_before xs ys b
+bytes_before (merging m ∷ xs) ys b = bytes_before xs ys b
+bytes_before (installing k m ∷ xs) ys b = bytes_before xs ys b
+bytes_before (trying p s m ∷ xs) ys b = (b.0, bytes_before xs ys b.1)
 
 -- and the numbers of the lists in force fit their widths
 all_fit : (cs : List Call) → AllBytes cs → AllListsFit (in_force (book_after cs))
@@ -85,7 +89,11 @@ every_trial calls earlier later p s buffer a e = go (is_accepted (filing_of p s)
 
     bytes_filed : (xs : List Call) → AllBytes (xs ++ trying p s buffer ∷ later) → AllBytes (xs ++ filing p s ∷ [])
     bytes_filed [] c = (c.0, tt)
-    bytes_filed (x ∷ xs) c = (c.0, bytes_filed xs c.1)
+    bytes_filed (filing q t ∷ xs) b = (b.0, bytes_filed xs b.1)
+    bytes_filed (withdrawal q ∷ xs) b = bytes_filed xs b
+    bytes_filed (merging m ∷ xs) b = bytes_filed xs b
+    bytes_filed (installing k m ∷ xs) b = bytes_filed xs b
+    bytes_filed (trying q t m ∷ xs) b = (b.0, bytes_filed xs b.1)
 
     on_filed : Answer × List ℕ
     on_filed = merging_of (book_of (bench_filed b p s)) buffer

@@ -19,7 +19,7 @@ use Rattle.bench.specs.declared.calls.Bench.{Bench}
 use Rattle.bench.specs.Book.{parties, Book, empty_book, in_force}
 use Rattle.bench.specs.Answers.{filing_of, withdrawal_of}
 use Rattle.bench.specs.Held.{vacant_slot, slot_with, list_in_slot, book_of, open_bench, with_slot}
-use Rattle.bench.specs.Calls.{Call, filing, withdrawal, merging, installing, trying, bench_step, bench_from, bench_after, book_step, book_from, book_after, FileHas, FilesHave, AllBytes}
+use Rattle.bench.specs.Calls.{Call, filing, withdrawal, merging, installing, trying, bench_step, bench_from, bench_after, book_step, book_from, book_after, FilesHave, AllBytes}
 use Rattle.bench.specs.steps.Staged.{EachSlot}
 use Rattle.bench.proofs.Filing.{Files, filing_tells, slot_holds}
 
@@ -75,14 +75,11 @@ book_more cs c =
 
 anything : (cs : List Call) → FilesHave (λ s. Unit {0}) cs
 anything [] = tt
-anything (c ∷ cs) = (of c, anything cs)
-  where
-    of : (c : Call) → FileHas (λ s. Unit {0}) c
-    of (filing p s) = tt
-    of (withdrawal p) = tt
-    of (merging buffer) = tt
-    of (installing ranking buffer) = tt
-    of (trying p s buffer) = tt
+anything (filing p s ∷ cs) = (tt, anything cs)
+anything (withdrawal p ∷ cs) = anything cs
+anything (merging buffer ∷ cs) = anything cs
+anything (installing ranking buffer ∷ cs) = anything cs
+anything (trying p s buffer ∷ cs) = (tt, anything cs)
 
 module _ (P : List Entry → Type 0) where
   put : (k : Book) (i : ℕ) (p : List Entry) → P p → EachSlot P k → EachSlot P (set k i (some p))
@@ -106,11 +103,11 @@ module _ (P : List Entry → Type 0) where
   in_force_lem (some p ∷ k) e q (inr i) = in_force_lem k e.1 q i
 
   module _ (Q : List ℕ → Type 0) (filed : (p : ℕ) (s : List ℕ) → Q s → Files p s → P (list_in s)) where
-    step_keeps : (k : Book) (c : Call) → FileHas Q c → EachSlot P k → EachSlot P (book_step k c)
+    step_keeps : (k : Book) (c : Call) → FilesHave Q (c ∷ []) → EachSlot P k → EachSlot P (book_step k c)
     step_keeps k (filing p s) b e = go (is_accepted (filing_of p s)) refl
       where
         go : (t : Bool) → is_accepted (filing_of p s) ≡ t → EachSlot P (cond t (set k (p - 1) (some (list_in s))) k)
-        go true a = put k (p - 1) (list_in s) (filed p s b (filing_tells p s a)) e
+        go true a = put k (p - 1) (list_in s) (filed p s b.0 (filing_tells p s a)) e
         go false a = e
     step_keeps k (withdrawal p) b e = go (is_accepted (withdrawal_of k p))
       where
@@ -123,7 +120,11 @@ module _ (P : List Entry → Type 0) where
 
     from_keeps : (k : Book) (cs : List Call) → FilesHave Q cs → EachSlot P k → EachSlot P (book_from k cs)
     from_keeps k [] b e = e
-    from_keeps k (c ∷ cs) b e = from_keeps (book_step k c) cs b.1 (step_keeps k c b.0 e)
+    from_keeps k (filing p s ∷ cs) b e = from_keeps (book_step k (filing p s)) cs b.1 (step_keeps k (filing p s) (b.0, tt) e)
+    from_keeps k (withdrawal p ∷ cs) b e = from_keeps (book_step k (withdrawal p)) cs b (step_keeps k (withdrawal p) tt e)
+    from_keeps k (merging buffer ∷ cs) b e = from_keeps k cs b e
+    from_keeps k (installing ranking buffer ∷ cs) b e = from_keeps k cs b e
+    from_keeps k (trying p s buffer ∷ cs) b e = from_keeps k cs b.1 e
 
     -- what every accepted filing's list has, every list in the book has after any list of calls
     each_slot : (cs : List Call) → FilesHave Q cs → EachSlot P (book_after cs)

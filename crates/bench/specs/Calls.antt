@@ -93,17 +93,14 @@ book_after cs = book_from empty_book cs
 
 -- ---- what is handed to a call is bytes
 
--- what holds of the file that a call is handed, if it is handed one
-abbrev pub FileHas : (List ℕ → Type 0) → Call → Type 0
-FileHas Q (filing p s) = Q s
-FileHas Q (withdrawal p) = Unit {0}
-FileHas Q (merging buffer) = Unit {0}
-FileHas Q (installing ranking buffer) = Unit {0}
-FileHas Q (trying p s buffer) = Q s
-
+-- what holds of every filing's bytes
 abbrev pub FilesHave : (List ℕ → Type 0) → List Call → Type 0
 FilesHave Q [] = Unit {0}
-FilesHave Q (c ∷ cs) = FileHas Q c × FilesHave Q cs
+FilesHave Q (filing p s ∷ cs) = Q s × FilesHave Q cs
+FilesHave Q (withdrawal p ∷ cs) = FilesHave Q cs
+FilesHave Q (merging buffer ∷ cs) = FilesHave Q cs
+FilesHave Q (installing ranking buffer ∷ cs) = FilesHave Q cs
+FilesHave Q (trying p s buffer ∷ cs) = Q s × FilesHave Q cs
 
 abbrev pub AllBytes : List Call → Type 0
 AllBytes cs = FilesHave Bytes cs

@@ -1,6 +1,6 @@
 -- Rows as functions of a field's number: tests of every field, and rows whose fields agree.
 -- Assumes nothing.
-use Prim.Native.Nat.{ℕ, zero, suc, ◌<◌, ◌-◌, min, max}
+use Prim.Native.Nat.{ℕ, zero, suc, ◌<◌, min, max}
 use native.Mathlib.Omega.{arith}
 use mathlib.Core.Path.{◌≡◌, refl, sym, ◌∙◌, ap}
 use mathlib.Core.Bool.{Bool, true, false, ◌&&◌}

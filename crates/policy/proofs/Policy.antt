@@ -14,7 +14,7 @@ use Rattle.policy.specs.declared.entry.Caught.TheVariants.{By, Uncaught}
 use Rattle.policy.specs.Header.{Headers, among}
 use Rattle.policy.specs.Least.{least}
 use Rattle.policy.specs.Entry.{matches}
-use Rattle.policy.specs.Policy.{catcher_from, catcher, Allowed, actions, uncaught, allowed, is_caught, caught, missed, exceeds, Covering, Equivalent, Refines}
+use Rattle.policy.specs.Policy.{catcher_from, catcher, Allowed, actions, uncaught, allowed, is_caught, missed, exceeds, Covering, Equivalent, Refines}
 use Rattle.policy.proofs.Bool.{clash, not_false, and_intro}
 use Rattle.policy.proofs.Least.{least_none, none_tells}
 

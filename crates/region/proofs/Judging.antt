@@ -8,7 +8,7 @@ use Rattle.policy.specs.declared.entry.Entry.{Entry}
 use Rattle.policy.specs.declared.entry.Caught.{Caught}
 use Rattle.policy.specs.declared.entry.Caught.TheVariants.{By}
 use Rattle.policy.specs.Box.{meet, proper}
-use Rattle.policy.specs.Header.{arity, before, Box, Headers}
+use Rattle.policy.specs.Header.{arity, Box, Headers}
 use Rattle.policy.specs.steps.Findings.{lesser}
 use Rattle.policy.specs.Least.{least_in}
 use Rattle.policy.specs.Actions.{subset}

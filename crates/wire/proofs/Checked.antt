@@ -16,7 +16,7 @@ use Rattle.wire.specs.declared.check.Checked.{Checked}
 use Rattle.wire.specs.declared.check.Checked.TheVariants.{Good, Refused}
 use Rattle.wire.specs.Format.{is_version, record_size, length_in, version_in, count_in, place_in, list_in}
 use Rattle.wire.specs.Checks.{missized, bad_version, bad_count, first_from, first_crossed, refuse_entry, file_checks, checks_of, checked}
-use Rattle.policy.proofs.Refusals.{passes, first_of_append, refused_stays, not_refused}
+use Rattle.policy.proofs.Refusals.{first_of_append, refused_stays, not_refused}
 use Rattle.wire.proofs.Sizes.{records_least}
 use Rattle.wire.proofs.Checks.{size_told, limits_told, count_told, entry_not_refused}
 

@@ -13,7 +13,7 @@ use lib.Seq.{drop-cons}
 use borrow.Author.Tests.{ltb-false, eqb-true, lt-ltb, le-ltb, eq-eqb, ne_eqb}
 use Rattle.policy.specs.declared.entry.Entry.{Entry}
 use Rattle.policy.specs.declared.refusal.Refusal.TheVariants.{Missized, Version, Count, Crossed}
-use Rattle.policy.specs.Refusals.{Answer, refusal, accepted, refuse, first_of}
+use Rattle.policy.specs.Refusals.{Answer, refusal, accepted, first_of}
 use Rattle.policy.specs.Entry.{crossed}
 use Rattle.policy.proofs.Bool.{not_false, clash, or_left, or_right}
 use Rattle.wire.specs.Format.{is_version, head_size, record_size, length_in, version_in, count_in, place_in, entry_at, entries_from}

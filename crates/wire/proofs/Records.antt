@@ -14,7 +14,7 @@ use lib.Seq.{take-suc, take-add, drop-drop, drop-cons, get_or-drop, get_or-appen
 use Rattle.policy.specs.declared.entry.Entry.{Entry}
 use borrow.Author.Tests.{lt-ltb, eqb-true}
 use Rattle.policy.specs.Box.{range}
-use Rattle.policy.specs.steps.Boxes.{lows, fits}
+use Rattle.policy.specs.steps.Boxes.{lows}
 use Rattle.policy.specs.Header.{arity}
 use Rattle.policy.specs.Entry.{selector, crossed}
 use Rattle.policy.proofs.Corner.{nth, fits_at, highs_at}

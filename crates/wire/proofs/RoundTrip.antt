@@ -19,7 +19,7 @@ use Rattle.wire.specs.declared.list.Entries.{Entries}
 use Rattle.wire.specs.Format.{Bytes, is_version, head_size, record_size, file_size, list_limit, length_in, version_in, count_in, entries_from, list_in, head_of, records_of, file_of}
 use Rattle.wire.specs.Checks.{first_crossed, checks_of, checked}
 use Rattle.wire.specs.Lists.{held, listed, no_entries, reading_of}
-use Rattle.wire.specs.Writing.{placed, crossed_in, first_crossed_in, write_answer, writing_of, writing, ReadAgain}
+use Rattle.wire.specs.Writing.{placed, crossed_in, first_crossed_in, write_answer, writing_of, ReadAgain}
 use Rattle.wire.proofs.Numbers.{join2}
 use Rattle.wire.proofs.Sizes.{records_most}
 use Rattle.wire.proofs.Answers.{after-accepted, after-refused}

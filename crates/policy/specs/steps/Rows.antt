@@ -4,7 +4,7 @@ use Rattle.policy.specs.declared.entry.Entry.{Entry}
 use Rattle.policy.specs.Row.{Row}
 use Rattle.policy.specs.Header.{arity}
 use Rattle.policy.specs.Entry.{entry}
-use Rattle.policy.specs.Sides.{box_of, field, row_of}
+use Rattle.policy.specs.Sides.{box_of, row_of}
 
 -- the sides of a box, and the numbers of a row
 abbrev pub sides : ℕ

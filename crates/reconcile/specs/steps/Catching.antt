@@ -3,7 +3,6 @@ use Rattle.std.specs.Prelude.{◌≡◌, List, [], ◌∷◌}
 use Rattle.policy.specs.declared.header.Header.{Header}
 use Rattle.policy.specs.declared.entry.Entry.{Entry}
 use Rattle.policy.specs.declared.entry.Caught.TheVariants.{By}
-use Rattle.policy.specs.Entry.{entry}
 use Rattle.policy.specs.Policy.{catcher}
 use Rattle.reconcile.specs.Crossproduct.{Tuple}
 

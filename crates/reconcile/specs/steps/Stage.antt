@@ -8,7 +8,7 @@ use Rattle.policy.specs.Least.{least}
 use Rattle.policy.specs.Policy.{allowed}
 use Rattle.wire.specs.Format.{filed_limit, list_limit, records_in, entries_from}
 use Rattle.reconcile.specs.declared.stage.Stage.{Stage}
-use Rattle.reconcile.specs.Rules.{is_empty, trimmed, Working, list, crowded, limited, next, Merging, refused, settled, working}
+use Rattle.reconcile.specs.Rules.{is_empty, trimmed, Working, list, crowded, limited, next, Merging, refused, settled}
 
 -- the working list of the first n entries
 abbrev pub working_in : List Entry → ℕ → Working

@@ -1,5 +1,5 @@
 -- Text that was put into a buffer.
-use Rattle.std.specs.Prelude.{ℕ, ◌+◌, ◌-◌, min, ◌≡◌, List, length}
+use Rattle.std.specs.Prelude.{ℕ, ◌+◌, min, ◌≡◌, List, length}
 use Rattle.report.specs.Text.{with_text}
 
 -- s was put into the buffer `before` from a place on: the buffer after it, and the place behind what was put

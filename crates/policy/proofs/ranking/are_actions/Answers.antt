@@ -1,5 +1,4 @@
 use borrow.Author.Rules.{rules}
-use Prim.Native.Nat.{◌-◌}
 use Rattle.policy.proofs.Ranked.{below_fails, below_more, below_all}
 use Rattle.policy.proofs.ranking.are_actions.Goals as goal
 

@@ -1,5 +1,4 @@
 use borrow.Author.Rules.{rules}
-use Prim.Native.Nat.{◌-◌}
 use Rattle.policy.proofs.Ranked.{times_here, times_other, times_all}
 use Rattle.policy.proofs.ranking.times_in.Goals as goal
 

@@ -1,5 +1,4 @@
 use native.Mathlib.Omega.{arith}
-use Prim.Native.Nat.{◌-◌}
 use Rattle.policy.proofs.Every.{passed_none}
 use Rattle.policy.proofs.Loops.{number_below, number_above, number_more, numbers_lie}
 use Rattle.policy.proofs.sides.is_inside.Goals as goal

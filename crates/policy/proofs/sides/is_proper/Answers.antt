@@ -1,5 +1,4 @@
 use native.Mathlib.Omega.{arith}
-use Prim.Native.Nat.{◌-◌}
 use Rattle.policy.proofs.Every.{passed_none}
 use Rattle.policy.proofs.Loops.{side_crossed, side_more, sides_proper}
 use Rattle.policy.proofs.sides.is_proper.Goals as goal

@@ -1,5 +1,4 @@
 use native.Mathlib.Omega.{arith}
-use Prim.Native.Nat.{◌-◌}
 use Rattle.policy.proofs.Every.{passed_none}
 use Rattle.policy.proofs.Loops.{low_differs, high_differs, same_more, same_all}
 use Rattle.policy.proofs.sides.is_same.Goals as goal

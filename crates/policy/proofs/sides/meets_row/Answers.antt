@@ -1,5 +1,4 @@
 use native.Mathlib.Omega.{arith}
-use Prim.Native.Nat.{◌-◌}
 use Rattle.policy.proofs.Every.{passed_none}
 use Rattle.policy.proofs.Loops.{part_crossed, part_more, part_proper}
 use Rattle.policy.proofs.sides.meets_row.Goals as goal

@@ -1,7 +1,6 @@
 use mathlib.Core.Path.{refl, ◌∙◌, ap₂}
 use Prim.Native.Nat.{min, max}
 use native.Mathlib.Omega.{arith}
-use Prim.Native.Nat.{◌-◌}
 use Rattle.policy.proofs.Loops.{filled_more, filled_part}
 use Rattle.policy.proofs.sides.part_in_row.Goals as goal
 

@@ -1,5 +1,4 @@
 use native.Mathlib.Omega.{arith}
-use Prim.Native.Nat.{◌-◌}
 use Rattle.policy.proofs.Every.{passed_none}
 use Rattle.policy.proofs.Loops.{first_differs, agree_more, none_differs}
 use Rattle.policy.proofs.sides.precede.Goals as goal

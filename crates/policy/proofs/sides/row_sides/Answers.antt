@@ -1,6 +1,5 @@
 use mathlib.Core.Path.{refl}
 use native.Mathlib.Omega.{arith}
-use Prim.Native.Nat.{◌-◌}
 use Rattle.policy.proofs.Loops.{filled_more, filled_row}
 use Rattle.policy.proofs.sides.row_sides.Goals as goal
 

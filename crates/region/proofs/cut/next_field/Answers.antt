@@ -1,4 +1,4 @@
-use Rattle.std.proofs.Common.{◌-◌, arith}
+use Rattle.std.proofs.Common.{arith}
 use Rattle.region.proofs.Fields.{next_none, next_more, next_is}
 use Rattle.region.proofs.cut.next_field.Goals as goal
 

@@ -1,5 +1,5 @@
 -- From the last field down: the candidate is one in which s ends before b, if there is any from f on.
-use Rattle.std.proofs.Common.{◌-◌, ◌≤◌}
+use Rattle.std.proofs.Common.{◌≤◌}
 use Rattle.policy.specs.Header.{arity}
 use Rattle.region.proofs.Fields.{NextFrom}
 use Rattle.region.proofs.cut.next_field.Given as goal

@@ -1,4 +1,4 @@
-use Rattle.std.proofs.Common.{◌-◌, true, arith}
+use Rattle.std.proofs.Common.{arith}
 use Rattle.policy.specs.Sides.{box_of}
 use Rattle.region.proofs.Choosing.{choose_first, choose_better}
 use Rattle.region.proofs.pick.choose.Goals as goal

@@ -1,4 +1,4 @@
-use Rattle.std.proofs.Common.{◌-◌, arith}
+use Rattle.std.proofs.Common.{arith}
 use Rattle.region.proofs.Choosing.{passed_none, passed_more, last_found, last_none}
 use Rattle.region.proofs.pick.up_to_last.Goals as goal
 

@@ -1,5 +1,5 @@
 -- From the last row to the first that holds the corner; none passed does.
-use Rattle.std.proofs.Common.{◌-◌, ◌≤◌}
+use Rattle.std.proofs.Common.{◌≤◌}
 use Rattle.policy.specs.Header.{arity}
 use Rattle.policy.specs.steps.Boxes.{lows}
 use Rattle.policy.specs.Sides.{box_of}

@@ -1,4 +1,4 @@
-use Rattle.std.proofs.Common.{◌-◌, arith}
+use Rattle.std.proofs.Common.{arith}
 use Rattle.policy.proofs.Every.{passed_none}
 use Rattle.region.proofs.Holding.{corner_missed, corner_more, corner_held}
 use Rattle.region.proofs.row.holds_corner.Goals as goal

@@ -1,4 +1,4 @@
-use Rattle.std.proofs.Common.{◌-◌, arith}
+use Rattle.std.proofs.Common.{arith}
 use Rattle.policy.proofs.Every.{passed_none}
 use Rattle.region.proofs.Holding.{end_missed, end_more, ends_reached}
 use Rattle.region.proofs.row.row_reaches.Goals as goal

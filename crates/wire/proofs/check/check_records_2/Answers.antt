@@ -1,6 +1,5 @@
 use borrow.Author.Rules.{rules}
 use native.Mathlib.Omega.{arith}
-use Prim.Native.Nat.{◌-◌}
 use Rattle.wire.specs.Format.{version_in}
 use Rattle.wire.proofs.CrossedBytes.{crossed_as_2}
 use Rattle.wire.proofs.Checks.{record_crossed, record_passed, records_passed}

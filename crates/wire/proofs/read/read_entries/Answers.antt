@@ -1,5 +1,4 @@
 use mathlib.Core.Path.{refl}
-use Prim.Native.Nat.{◌-◌}
 use borrow.Author.Rules.{rules}
 use Rattle.wire.proofs.Lists.{firsts_next, firsts_listed}
 use Rattle.wire.proofs.Sizes.{entry_within}

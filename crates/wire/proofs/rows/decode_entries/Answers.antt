@@ -1,7 +1,7 @@
 use borrow.Author.Rules.{rules}
 use mathlib.Core.Path.{refl}
 use native.Mathlib.Omega.{arith}
-use Prim.Native.Nat.{◌+◌, ◌-◌}
+use Prim.Native.Nat.{◌+◌}
 use Rattle.wire.proofs.PutRows.{entries_next, entries_all}
 use Rattle.wire.proofs.Sizes.{fewer_records, entry_after}
 use Rattle.wire.proofs.rows.decode_entries.Goals as goal

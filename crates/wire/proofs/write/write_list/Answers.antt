@@ -2,7 +2,6 @@
 use mathlib.Core.Path.{◌≡◌, ap}
 use Prim.Native.Nat.{ℕ, ◌-◌}
 use native.Mathlib.Omega.{arith}
-use lib.ListN.{length, length-map}
 use borrow.Author.Rules.{rules}
 use Rattle.wire.specs.Format.{list_limit, file_size}
 use Rattle.wire.proofs.Checks.{none_outside, past_outside}
