@@ -1,8 +1,8 @@
 // The policy list merger: standard input to standard output.
 #![tactic(auto)]
 
-use libc::STDIN_FILENO;
+use std::io;
 
-fn main() {
-    program::run(STDIN_FILENO);
+fn main(rt: HostRuntime) -> io::Result<()> {
+    program::run(&mut rt.stdin(), &mut rt.stdout())
 }

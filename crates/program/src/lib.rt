@@ -1,26 +1,33 @@
-// The program, from a descriptor to standard output.
+// The program, from a reader to a writer.
 #![tactic(auto)]
 
-ghost use Rattle.std.specs.Prelude.{◌≡◌};
+ghost use Rattle.std.specs.Prelude.{◌≡◌, IfSome, OnOk};
+ghost use Rattle.std.specs.Io.KnownBytes.{Appends};
 ghost use Rattle.report.specs.Report.{report_of};
 
-use libc::STDOUT_FILENO;
+use intake::read_full;
 use report::{INPUT_LIMIT, REPORT_SIZE};
+use std::io;
+use std::io::{Read, Write};
 
 // Writes the report of an input.
-fn write_report(input: &[u8], text: &[u8])
+fn write_report<W: Write>(writer: &mut W, input: &[u8], text: &[u8]) -> io::Result<()>
     requires { text.now ≡ report_of input.now }
+    ensures { OnOk result (Appends (W.contents writer.old) (W.contents writer.new) (report_of input.now)) }
 {
-    io::write_all(STDOUT_FILENO, text);
+    writer.write_all(text)
 }
 
-// Reads from a descriptor, one byte past the limit at most, and writes the report of the bytes that it hands on. That these are all that came is tested
-// and not proved: no contract speaks of what is read.
-pub fn run(descriptor: i32) {
+// Reads one byte past the limit at most, and writes the report of all that the reader has. No contract speaks of what a file or standard input gives; the
+// clause is for readers and writers whose bytes are known.
+pub fn run<R: Read, W: Write>(reader: &mut R, writer: &mut W) -> io::Result<()>
+    ensures { OnOk result (IfSome (R.remaining reader.old)
+        (λ input. Appends (W.contents writer.old) (W.contents writer.new) (report_of input))) }
+{
     let mut buffer = [0u8; INPUT_LIMIT + 1];
-    let count = io::read_full(descriptor, &mut buffer);
+    let count = read_full(reader, &mut buffer)?;
     let mut out = [0u8; REPORT_SIZE];
     let input = &buffer[0..count];
     let length = report::report(input, &mut out);
-    write_report(input, &out[0..length]);
+    write_report(writer, input, &out[0..length])
 }

@@ -9,92 +9,93 @@ use crate::value::{BOX_SIZE, box_sides, list, list_end};
 use compare::files::compare_files;
 use gateway::exports::policy_compare;
 use region::search::{Want, search_file};
+use std::io;
 use wire::check::Checked;
 use wire::list::Entries;
 use wire::read::read_list;
 use wire::write::write_list;
 
 // Writes a list into a lent buffer.
-fn write_into(list: Entries, buffer: &mut [u8]) {
-    written(write_list(list, buffer));
-    print_bytes(buffer);
-    print_end();
+fn write_into(rt: &impl Print, list: Entries, buffer: &mut [u8]) -> io::Result<()> {
+    written(rt, write_list(list, buffer))?;
+    print_bytes(rt, buffer)?;
+    print_end(rt)
 }
 
 // Reads a file, and writes the list that was read into a lent buffer.
-fn rewrite_into(file: &[u8], buffer: &mut [u8]) {
+fn rewrite_into(rt: &impl Print, file: &[u8], buffer: &mut [u8]) -> io::Result<()> {
     let r = read_list(file);
     let answer = r.answer;
     match answer {
         Checked::Good(_) => {
             let list = r.list;
-            write_into(list, buffer);
+            write_into(rt, list, buffer)
         }
         Checked::Refused(r) => {
-            refused(r);
-            print_bytes(buffer);
-            print_end();
+            refused(rt, r)?;
+            print_bytes(rt, buffer)?;
+            print_end(rt)
         }
     }
 }
 
-pub(crate) fn read(s: &[u8], at: usize) -> usize {
+pub(crate) fn read(rt: &impl Print, s: &[u8], at: usize) -> io::Result<usize> {
     let lent = bytes_end(s, at);
     let end = buffer_end(s, lent);
     if end == NOWHERE {
-        return end;
+        return Ok(end);
     }
     let n = buffer_length(s, lent);
     let filling = buffer_filling(s, lent);
     let mut buffer = [filling; BUFFER_LIMIT];
-    rewrite_into(bytes(s, at), &mut buffer[0..n]);
-    end
+    rewrite_into(rt, bytes(s, at), &mut buffer[0..n])?;
+    Ok(end)
 }
 
-pub(crate) fn write(s: &[u8], at: usize) -> usize {
+pub(crate) fn write(rt: &impl Print, s: &[u8], at: usize) -> io::Result<usize> {
     let lent = list_end(s, at);
     let end = buffer_end(s, lent);
     if end == NOWHERE {
-        return end;
+        return Ok(end);
     }
     let n = buffer_length(s, lent);
     let filling = buffer_filling(s, lent);
     let mut buffer = [filling; BUFFER_LIMIT];
-    write_into(list(s, at), &mut buffer[0..n]);
-    end
+    write_into(rt, list(s, at), &mut buffer[0..n])?;
+    Ok(end)
 }
 
-pub(crate) fn compare(s: &[u8], at: usize) -> usize {
+pub(crate) fn compare(rt: &impl Print, s: &[u8], at: usize) -> io::Result<usize> {
     let second = bytes_end(s, at);
     let end = bytes_end(s, second);
     if end == NOWHERE {
-        return end;
+        return Ok(end);
     }
-    compared(compare_files(bytes(s, at), bytes(s, second)));
-    print_end();
-    end
+    compared(rt, compare_files(bytes(s, at), bytes(s, second)))?;
+    print_end(rt)?;
+    Ok(end)
 }
 
 // Compares as C does, with a lent buffer.
-fn compare_into(first: &[u8], second: &[u8], buffer: &mut [u8]) {
-    numbered(policy_compare(first, second, buffer));
-    print_bytes(buffer);
-    print_end();
+fn compare_into(rt: &impl Print, first: &[u8], second: &[u8], buffer: &mut [u8]) -> io::Result<()> {
+    numbered(rt, policy_compare(first, second, buffer))?;
+    print_bytes(rt, buffer)?;
+    print_end(rt)
 }
 
 // Comparison as C has it.
-pub(crate) fn compare_for_c(s: &[u8], at: usize) -> usize {
+pub(crate) fn compare_for_c(rt: &impl Print, s: &[u8], at: usize) -> io::Result<usize> {
     let second = bytes_end(s, at);
     let lent = bytes_end(s, second);
     let end = buffer_end(s, lent);
     if end == NOWHERE {
-        return end;
+        return Ok(end);
     }
     let n = buffer_length(s, lent);
     let filling = buffer_filling(s, lent);
     let mut buffer = [filling; BUFFER_LIMIT];
-    compare_into(bytes(s, at), bytes(s, second), &mut buffer[0..n]);
-    end
+    compare_into(rt, bytes(s, at), bytes(s, second), &mut buffer[0..n])?;
+    Ok(end)
 }
 
 // What is looked for: a byte that says which of the three, and a number.
@@ -109,18 +110,18 @@ fn want(s: &[u8], at: usize) -> Want {
     Want::Differs(number2(s, at, 1))
 }
 
-pub(crate) fn search(s: &[u8], at: usize) -> usize {
+pub(crate) fn search(rt: &impl Print, s: &[u8], at: usize) -> io::Result<usize> {
     let within = bytes_end(s, at);
     let wanted = behind(s, within, BOX_SIZE);
     let end = behind(s, wanted, 3);
     if end == NOWHERE {
-        return end;
+        return Ok(end);
     }
     if 2 < number1(s, wanted, 0) {
-        return NOWHERE;
+        return Ok(NOWHERE);
     }
     let b = box_sides(s, within);
-    searched(search_file(bytes(s, at), &b, want(s, wanted)));
-    print_end();
-    end
+    searched(rt, search_file(bytes(s, at), &b, want(s, wanted)))?;
+    print_end(rt)?;
+    Ok(end)
 }

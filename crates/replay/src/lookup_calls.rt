@@ -6,59 +6,63 @@ use crate::table::look_up;
 use crate::value::{HEADER_SIZE, header, table, table_count, table_end};
 use gateway::exports::policy_lookup;
 use lookup::file::{lookup_number, lookup_record};
+use std::io;
 
 // The entry's number.
-pub(crate) fn look_up_number(s: &[u8], at: usize) -> usize {
+pub(crate) fn look_up_number(rt: &impl Print, s: &[u8], at: usize) -> io::Result<usize> {
     let place = bytes_end(s, at);
     let end = behind(s, place, HEADER_SIZE);
     if end == NOWHERE {
-        return end;
+        return Ok(end);
     }
-    looked_up(lookup_number(bytes(s, at), header(s, place)));
-    print_end();
-    end
+    looked_up(rt, lookup_number(bytes(s, at), header(s, place)))?;
+    print_end(rt)?;
+    Ok(end)
 }
 
 // The length and the bytes of a part.
-fn print_part(part: &[u8]) {
-    accepted();
-    print_number(part.len() as u64);
-    print_bytes(part);
-    print_end();
+fn print_part(rt: &impl Print, part: &[u8]) -> io::Result<()> {
+    accepted(rt)?;
+    print_number(rt, part.len() as u64)?;
+    print_bytes(rt, part)?;
+    print_end(rt)
 }
 
 // The record's part.
-pub(crate) fn look_up_record(s: &[u8], at: usize) -> usize {
+pub(crate) fn look_up_record(rt: &impl Print, s: &[u8], at: usize) -> io::Result<usize> {
     let place = bytes_end(s, at);
     let end = behind(s, place, HEADER_SIZE);
     if end == NOWHERE {
-        return end;
+        return Ok(end);
     }
-    print_part(lookup_record(bytes(s, at), header(s, place)));
-    end
+    print_part(rt, lookup_record(bytes(s, at), header(s, place)))?;
+    Ok(end)
 }
 
 // In a table.
-pub(crate) fn look_up_table(s: &[u8], at: usize) -> usize {
+pub(crate) fn look_up_table(rt: &impl Print, s: &[u8], at: usize) -> io::Result<usize> {
     let place = table_end(s, at);
     let end = behind(s, place, HEADER_SIZE);
     if end == NOWHERE {
-        return end;
+        return Ok(end);
     }
-    caught(look_up(table(s, at), table_count(s, at), header(s, place)));
-    print_end();
-    end
+    caught(
+        rt,
+        look_up(table(s, at), table_count(s, at), header(s, place)),
+    )?;
+    print_end(rt)?;
+    Ok(end)
 }
 
 // As C has it.
-pub(crate) fn look_up_for_c(s: &[u8], at: usize) -> usize {
+pub(crate) fn look_up_for_c(rt: &impl Print, s: &[u8], at: usize) -> io::Result<usize> {
     let place = bytes_end(s, at);
     let end = behind(s, place, HEADER_SIZE);
     if end == NOWHERE {
-        return end;
+        return Ok(end);
     }
     let h = header(s, place);
-    numbered(policy_lookup(
+    let number = policy_lookup(
         bytes(s, at),
         h.local,
         h.remote,
@@ -66,7 +70,8 @@ pub(crate) fn look_up_for_c(s: &[u8], at: usize) -> usize {
         h.remote_port,
         h.protocol,
         h.direction,
-    ));
-    print_end();
-    end
+    );
+    numbered(rt, number)?;
+    print_end(rt)?;
+    Ok(end)
 }

@@ -12,10 +12,11 @@ mod table;
 mod value;
 
 use crate::replay::{INPUT_LIMIT, replay};
-use libc::STDIN_FILENO;
+use intake::read_full;
+use std::io;
 
-fn main() {
+fn main(rt: HostRuntime) -> io::Result<()> {
     let mut buffer = [0u8; INPUT_LIMIT + 1];
-    let count = io::read_full(STDIN_FILENO, &mut buffer);
-    replay(&buffer[0..count]);
+    let count = read_full(&mut rt.stdin(), &mut buffer)?;
+    replay(&rt, &buffer[0..count])
 }

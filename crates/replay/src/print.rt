@@ -2,27 +2,26 @@
 ghost use Rattle.std.specs.Prelude.{◌≡◌, ◌+◌, ◌<◌, ◌≤◌, length};
 
 use crate::input::BUFFER_LIMIT;
-use libc::STDOUT_FILENO;
 use policy::header::Header;
+use std::io;
 
-pub(crate) fn print(text: &[u8]) {
-    io::write_all(STDOUT_FILENO, text);
+pub(crate) fn print(rt: &impl Print, text: &[u8]) -> io::Result<()> {
+    rt.write_all(text)
 }
 
 // A space and a number in decimal.
-pub(crate) fn print_number(n: u64) {
-    print(b" ");
-    io::print_decimal(STDOUT_FILENO, n);
+pub(crate) fn print_number(rt: &impl Print, n: u64) -> io::Result<()> {
+    print!(rt; " {n}")
 }
 
 // A header's numbers.
-pub(crate) fn print_header(h: Header) {
-    print_number(h.local as u64);
-    print_number(h.remote as u64);
-    print_number(h.local_port as u64);
-    print_number(h.remote_port as u64);
-    print_number(h.protocol as u64);
-    print_number(h.direction as u64);
+pub(crate) fn print_header(rt: &impl Print, h: Header) -> io::Result<()> {
+    print_number(rt, h.local as u64)?;
+    print_number(rt, h.remote as u64)?;
+    print_number(rt, h.local_port as u64)?;
+    print_number(rt, h.remote_port as u64)?;
+    print_number(rt, h.protocol as u64)?;
+    print_number(rt, h.direction as u64)
 }
 
 // A hexadecimal digit.
@@ -46,29 +45,28 @@ fn put_byte(text: &mut [u8], at: usize, b: u8)
 
 // Bytes in hexadecimal, as many as the text has room for. Answers how long they are there.
 fn put_hex(text: &mut [u8], s: &[u8]) -> usize
-    ensures { (result ≤ length text.old) × (length text.new ≡ length text.old) }
+    ensures within { result ≤ length text.old }
+    ensures same_length { length text.new ≡ length text.old }
 {
     let mut at: usize = 0;
-    let mut i: usize = 0;
-    while i < s.len() {
+    for b in s {
         if text.len() - at < 2 {
             return at;
         }
-        put_byte(text, at, s[i]);
+        put_byte(text, at, *b);
         at += 2;
-        i += 1;
     }
     at
 }
 
 // An equals sign and bytes in hexadecimal, of which a buffer has BUFFER_LIMIT at most.
-pub(crate) fn print_bytes(s: &[u8]) {
+pub(crate) fn print_bytes(rt: &impl Print, s: &[u8]) -> io::Result<()> {
     let mut text = [0u8; 2 * BUFFER_LIMIT];
     let n = put_hex(&mut text, s);
-    print(b" = ");
-    print(&text[0..n]);
+    print(rt, b" = ")?;
+    print(rt, &text[0..n])
 }
 
-pub(crate) fn print_end() {
-    print(b"\n");
+pub(crate) fn print_end(rt: &impl Print) -> io::Result<()> {
+    print(rt, b"\n")
 }

@@ -77,17 +77,8 @@ pub(crate) fn list(s: &[u8], at: usize) -> Entries {
     let place = behind(s, at, 1);
     let count = number4(s, place, 0) as usize;
     let mut entries = [EMPTY; LIST_LIMIT];
-    let mut i: usize = 0;
-    while i < LIST_LIMIT {
-        if count <= i {
-            return Entries {
-                version,
-                entries,
-                count,
-            };
-        }
+    for i in 0..count.min(LIST_LIMIT) {
         entries[i] = entry_number(s, place, i);
-        i += 1;
     }
     Entries {
         version,
@@ -120,13 +111,8 @@ pub(crate) fn table_end(s: &[u8], at: usize) -> usize {
 pub(crate) fn table(s: &[u8], at: usize) -> [Entry; TABLE_LIMIT] {
     let count = table_count(s, at);
     let mut entries = [EMPTY; TABLE_LIMIT];
-    let mut i: usize = 0;
-    while i < TABLE_LIMIT {
-        if count <= i {
-            return entries;
-        }
+    for i in 0..count {
         entries[i] = entry_number(s, at, i);
-        i += 1;
     }
     entries
 }
