@@ -1,0 +1,6 @@
+-- A header comes before a finding as its two cases say.
+use Rattle.region.proofs.Opening.{improves_at}
+use Rattle.region.proofs.corner.is_improved.Goals as goal
+
+pub returns-in-At : goal.returns-in-At
+returns-in-At c = search improves_at
