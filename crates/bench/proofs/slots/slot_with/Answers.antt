@@ -1,0 +1,7 @@
+-- The file is pasted over zeros.
+-- Assumes nothing.
+use Rattle.bench.proofs.Slotting.{slot_made}
+use Rattle.bench.proofs.slots.slot_with.Goals as goal
+
+pub returns : goal.returns
+returns c = slot_made c.args.file.now c.put_bytes.new.buffer c.put_bytes.ensures
