@@ -24,7 +24,7 @@ define prove
 endef
 
 program:
-	$(call prove,rt check merger)
+	$(call prove,tools/build merger)
 
 # A C program with the library, answering lookups and a comparison.
 daemon: archive
@@ -35,7 +35,7 @@ test:
 	.ci/run
 
 replay:
-	$(call prove,rt check replay)
+	$(call prove,tools/build replay)
 
 fuzz: program replay
 	$(CARGO) --bin fuzz
@@ -43,7 +43,7 @@ fuzz: program replay
 	outside/target/release/fuzz replay target/bin/replay
 
 archive:
-	$(call prove,rt staticlib gateway)
+	$(call prove,tools/build gateway_c)
 
 install: archive
 	install -d $(DESTDIR)$(PREFIX)/lib/pkgconfig $(DESTDIR)$(PREFIX)/include/dunnarek
@@ -55,22 +55,20 @@ install: archive
 	    > $(DESTDIR)$(PREFIX)/lib/pkgconfig/dunnarek-policy.pc
 
 # Times beside Rust versions of the same jobs, and what the proofs take, as docs/MEASUREMENTS.md; no part of the gate.
-# Proves every crate anew, which takes longest, or only those named by CHECKED. Cargo does not notice a new archive, so it starts from nothing.
+# Proves every crate anew, which takes longest, or only those named by CHECKED and those below them. Cargo does not notice a new archive, so it starts from nothing.
 CHECKED =
 measure:
 	mkdir -p target
 	outside/check_figures $(CHECKED) > target/checking.md
-	rt staticlib gateway
-	rt staticlib measured
+	tools/build gateway_c measured
 	rm -rf outside/target
 	$(CARGO) --features gateway,measured --bin measure
 	outside/target/release/measure docs/MEASUREMENTS.md target/checking.md
 
 # The product's times beside those of other archives, in one run: OLD is a copy of an earlier target/staticlib with both archives.
 measure-against:
-	rt staticlib gateway
-	rt staticlib measured
+	tools/build gateway_c measured
 	outside/compare_archives $(OLD) target/staticlib
 
 clean:
-	rm -rf target outside/target
+	rm -rf target outside/target crates/*/out

@@ -1,4 +1,4 @@
-//! Says where the archives that `rt staticlib` writes are found: target/staticlib of the repository,
+//! Says where the archives that tools/build writes are found: target/staticlib of the repository,
 //! or the folder named by STATICLIB_DIR. Says also whether libmeasured.a installs and tries: archives from
 //! before Wishes 2 and 6 do not, and are still to be timed beside later ones.
 

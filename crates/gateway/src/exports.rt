@@ -1,4 +1,4 @@
-// Lookup and comparison for C, over byte slices and numbers.
+// Lookup and comparison as C gets them, over byte slices and numbers. The crate gateway_c hands them to C.
 ghost use Rattle.std.specs.Prelude.{◌≡◌, List, ℕ};
 ghost use Rattle.policy.specs.Header.{header};
 ghost use Rattle.lookup.specs.Lookup.{lookup_of};
@@ -12,8 +12,7 @@ use policy::refusal::number_of;
 use wire::header::put_header;
 
 // The number of the entry that catches the header, 256 if none does, or 256 plus the number of the refusal.
-#[unsafe(no_mangle)]
-pub extern "C" fn policy_lookup(
+pub fn policy_lookup(
     file: &[u8],
     local: u32,
     remote: u32,
@@ -41,8 +40,7 @@ pub extern "C" fn policy_lookup(
 
 // 0 if the first file refines the second, 1 if it does not, or the file's number times 256 plus the number of the refusal.
 // On 1 the least header where it does not goes to the first 14 bytes of the buffer, if it has 14.
-#[unsafe(no_mangle)]
-pub extern "C" fn policy_compare(first: &[u8], second: &[u8], buffer: &mut [u8]) -> u32
+pub fn policy_compare(first: &[u8], second: &[u8], buffer: &mut [u8]) -> u32
     ensures { ◌≡◌ {A = ℕ × List ℕ} (result, buffer.new)
         (comparison_number (comparison_of first.now second.now), header_lent (comparison_of first.now second.now) buffer.old) }
 {

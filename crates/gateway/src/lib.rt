@@ -1,4 +1,4 @@
-// What the gateway's C daemon calls; include/dunnarek/policy.h declares it.
+// What the gateway's C daemon calls, for callers in this repository too; include/dunnarek/policy.h says it for C.
 #![tactic(auto)]
 
 pub mod exports;

@@ -1,0 +1,45 @@
+// The library for C, which include/dunnarek/policy.h declares. Each call is that of the crate gateway, with its clause, since no crate can stand
+// on a static library.
+#![tactic(auto)]
+
+ghost use Rattle.std.specs.Prelude.{◌≡◌, List, ℕ};
+ghost use Rattle.policy.specs.Header.{header};
+ghost use Rattle.lookup.specs.Lookup.{lookup_of};
+ghost use Rattle.compare.specs.Comparison.{comparison_of};
+ghost use Rattle.gateway.specs.Exports.{lookup_number, comparison_number, header_lent};
+
+use gateway::exports;
+
+// The number of the entry that catches the header, 256 if none does, or 256 plus the number of the refusal.
+#[unsafe(no_mangle)]
+pub extern "C" fn policy_lookup(
+    file: &[u8],
+    local: u32,
+    remote: u32,
+    local_port: u16,
+    remote_port: u16,
+    protocol: u8,
+    direction: u8,
+) -> u32
+    ensures { result ≡ lookup_number (lookup_of file.now (header (local, (remote, (local_port, (remote_port, (protocol, (direction, tt)))))))) }
+{
+    exports::policy_lookup(
+        file,
+        local,
+        remote,
+        local_port,
+        remote_port,
+        protocol,
+        direction,
+    )
+}
+
+// 0 if the first file refines the second, 1 if it does not, or the file's number times 256 plus the number of the refusal.
+// On 1 the least header where it does not goes to the first 14 bytes of the buffer, if it has 14.
+#[unsafe(no_mangle)]
+pub extern "C" fn policy_compare(first: &[u8], second: &[u8], buffer: &mut [u8]) -> u32
+    ensures { ◌≡◌ {A = ℕ × List ℕ} (result, buffer.new)
+        (comparison_number (comparison_of first.now second.now), header_lent (comparison_of first.now second.now) buffer.old) }
+{
+    exports::policy_compare(first, second, buffer)
+}
