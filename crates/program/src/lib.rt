@@ -46,3 +46,64 @@ pub fn run<R: Read, W: Write>(reader: &mut R, writer: &mut W) -> io::Result<()>
     let mut out = [0u8; REPORT_SIZE];
     run_in(reader, writer, &mut buffer, &mut out)
 }
+
+#[cfg(test)]
+mod tests {
+    use super::*;
+    use std::io::ErrorKind;
+    use std::test::Fail;
+
+    // Gives its bytes, and fails behind them.
+    #[derive(Drop)]
+    struct CutOff<'a> {
+        left: &'a [u8],
+    }
+
+    impl Read for CutOff<'_> {
+        fn read(&mut self, buf: &mut [u8]) -> io::Result<usize> {
+            if self.left.is_empty() {
+                return Err(io::Error::from(ErrorKind::ConnectionReset));
+            }
+            self.left.read(buf)
+        }
+    }
+
+    // Takes nothing.
+    #[derive(Drop)]
+    struct Full;
+
+    impl Write for Full {
+        fn write(&mut self, _buf: &[u8]) -> io::Result<usize> {
+            Err(io::Error::from(ErrorKind::StorageFull))
+        }
+
+        fn flush(&mut self) -> io::Result<()> {
+            Ok(())
+        }
+    }
+
+    #[test]
+    fn report_of_nothing(rt: HostRuntime) -> Result<(), Fail> {
+        let mut written = Vec::new(rt.alloc());
+        run(&mut b"".as_slice(), &mut written)?;
+        assert_eq!(rt; written.as_slice(), b"refused 0 8\n".as_slice());
+        Ok(())
+    }
+
+    #[test]
+    fn nothing_after_a_failed_read(rt: HostRuntime) {
+        let mut written = Vec::new(rt.alloc());
+        let answer = run(&mut CutOff { left: b"\x01\x00" }, &mut written);
+        assert_eq!(rt;
+            answer.map_err(|e| e.kind()),
+            Err(ErrorKind::ConnectionReset)
+        );
+        assert!(rt; written.is_empty());
+    }
+
+    #[test]
+    fn failed_write(rt: HostRuntime) {
+        let answer = run(&mut b"".as_slice(), &mut Full);
+        assert_eq!(rt; answer.map_err(|e| e.kind()), Err(ErrorKind::StorageFull));
+    }
+}
