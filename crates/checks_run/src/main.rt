@@ -113,8 +113,7 @@ fn set_wide_file(buffer: &mut [u8], n: u16)
 
 // A range with both ends 0, or its low 1 above its high; the low's bytes start at a place.
 fn set_range(buffer: &mut [u8], at: usize, width: usize, low: u8)
-    requires near { at ≤ 10000 }
-    requires narrow { width ≤ 4 }
+    requires { (at ≤ 10000) × (width ≤ 4) }
 {
     for i in 0..width {
         set_byte(buffer, at + width + i, 0);
@@ -239,9 +238,7 @@ fn try_crossed(
     at: usize,
     width: usize,
 ) -> io::Result<()>
-    requires held { entry ≤ 2 }
-    requires near { at ≤ 27 }
-    requires narrow { width ≤ 4 }
+    requires { (entry ≤ 2) × ((at ≤ 27) × (width ≤ 4)) }
 {
     set_file(buffer, 3);
     set_range(buffer, 5 + 28 * entry + at, width, 1);
