@@ -49,13 +49,13 @@ stands (some r ∷ k) (suc i) q l = inr (stands k i q (omega arith))
 
 module _ (p : ℕ) (s buffer : List ℕ) (k : Book) (answer : Answer) where
   pub not_filed_keeps : is_accepted (filing_of p s) ≡ false → answer ≡ filing_of p s → Trying p s k buffer answer buffer
-  not_filed_keeps n e = record { not_filed = λ q. (e, refl); as_filed = λ q. clash q n; in_force_lem = λ q. clash q n }
+  not_filed_keeps n e = record { not_filed = λ q. (e, refl); as_filed = λ q. clash q n; tried_in_force = λ q. clash q n }
 
   pub filed_keeps : (after : List ℕ) → length k ≡ parties → is_accepted (filing_of p s) ≡ true → Demand3 (book_step k (filing p s)) buffer answer after → Trying p s k buffer answer after
   filed_keeps after l y d = record {
     not_filed = λ q. clash y q;
     as_filed = λ q. d;
-    in_force_lem = λ q. subst (λ (t : Bool). In (list_in s) (in_force (cond t (set k (p - 1) (some (list_in s))) k))) (sym y) (stands k (p - 1) (list_in s) (place (length k) l));
+    tried_in_force = λ q. subst (λ (t : Bool). In (list_in s) (in_force (cond t (set k (p - 1) (some (list_in s))) k))) (sym y) (stands k (p - 1) (list_in s) (place (length k) l));
   }
     where
       place : (n : ℕ) → n ≡ parties → p - 1 < n

@@ -16,4 +16,4 @@ pub record Trying (p : ℕ) (s : List ℕ) (k : Book) (buffer : List ℕ) (answe
   -- else it keeps to demand 3, as a merging with the book that the filing would leave
   pub as_filed : is_accepted (filing_of p s) ≡ true → Demand3 (book_step k (filing p s)) buffer answer after
   -- the tried list is in force there, so that no trial is refused as bare
-  pub in_force_lem : is_accepted (filing_of p s) ≡ true → In (list_in s) (in_force (book_step k (filing p s)))
+  pub tried_in_force : is_accepted (filing_of p s) ≡ true → In (list_in s) (in_force (book_step k (filing p s)))
