@@ -1,21 +1,45 @@
 // The program, from a reader to a writer.
 #![tactic(auto)]
 
-ghost use Rattle.std.specs.Prelude.{◌≡◌, ◌+◌, ◌≤◌, IfSome, OnOk, length};
-ghost use Rattle.std.specs.Io.KnownBytes.{Appends};
+ghost use Rattle.std.specs.Prelude.{◌≡◌, ◌+◌, ◌≤◌, ℕ, IfSome, OnErr, OnOk, length, take};
+ghost use Rattle.std.specs.Io.KnownBytes.{Appends, WriteAppends};
+ghost use Rattle.std.specs.Io.{WritesAtMost};
 ghost use Rattle.report.specs.Report.{report_of};
 
 use intake::read_full;
 use report::{INPUT_LIMIT, REPORT_SIZE};
 use std::io;
-use std::io::{Read, Write};
+use std::io::{ErrorKind, Read, Write};
 
-// Writes the report of an input.
+// One write, made again where a signal interrupts it.
+fn write_some<W: Write>(writer: &mut W, text: &[u8]) -> io::Result<usize>
+    ensures bound { WritesAtMost result text.now }
+    ensures bytes { WriteAppends (W.contents writer.old) (W.contents writer.new) result text.now }
+{
+    for _ in 0..u64::MAX {
+        match writer.write(text) {
+            Err(e) if e.kind() == ErrorKind::Interrupted => {}
+            answer => return answer,
+        }
+    }
+    Err(io::Error::from(ErrorKind::TimedOut))
+}
+
+// Writes the report of an input; some front of it, where a write fails.
 fn write_report<W: Write>(writer: &mut W, input: &[u8], text: &[u8]) -> io::Result<()>
     requires { text.now ≡ report_of input.now }
-    ensures { OnOk result (Appends (W.contents writer.old) (W.contents writer.new) (report_of input.now)) }
+    ensures ok { OnOk result (Appends (W.contents writer.old) (W.contents writer.new) (report_of input.now)) }
+    ensures err { OnErr result ((n : ℕ) × Appends (W.contents writer.old) (W.contents writer.new) (take n (report_of input.now))) }
 {
-    writer.write_all(text)
+    let mut at = 0;
+    while at < text.len() {
+        let n = write_some(writer, &text[at..])?;
+        if n == 0 {
+            return Err(io::Error::from(ErrorKind::WriteZero));
+        }
+        at += n;
+    }
+    Ok(())
 }
 
 // Reads into one lent buffer, makes the report in the other, and writes it.
@@ -27,8 +51,10 @@ fn run_in<R: Read, W: Write>(
 ) -> io::Result<()>
     requires past_limit { length buffer.old ≡ INPUT_LIMIT + 1 }
     requires room { REPORT_SIZE ≤ length out.old }
-    ensures { OnOk result (IfSome (R.remaining reader.old)
+    ensures ok { OnOk result (IfSome (R.remaining reader.old)
         (λ input. Appends (W.contents writer.old) (W.contents writer.new) (report_of input))) }
+    ensures err { OnErr result (IfSome (R.remaining reader.old)
+        (λ input. (n : ℕ) × Appends (W.contents writer.old) (W.contents writer.new) (take n (report_of input)))) }
 {
     let count = read_full(reader, buffer)?;
     let input = &buffer[0..count];
@@ -36,11 +62,13 @@ fn run_in<R: Read, W: Write>(
     write_report(writer, input, &out[0..length])
 }
 
-// Reads one byte past the limit at most, and writes the report of all that the reader has. No contract says what standard input or a file gives: the clause is
+// Reads one byte past the limit at most, and writes the report of all that the reader has; nothing, where a read fails, and some front of it, where a write does. No contract says what standard input or a file gives: the clause is
 // for readers and writers whose bytes are known.
 pub fn run<R: Read, W: Write>(reader: &mut R, writer: &mut W) -> io::Result<()>
-    ensures { OnOk result (IfSome (R.remaining reader.old)
+    ensures ok { OnOk result (IfSome (R.remaining reader.old)
         (λ input. Appends (W.contents writer.old) (W.contents writer.new) (report_of input))) }
+    ensures err { OnErr result (IfSome (R.remaining reader.old)
+        (λ input. (n : ℕ) × Appends (W.contents writer.old) (W.contents writer.new) (take n (report_of input)))) }
 {
     let mut buffer = [0u8; INPUT_LIMIT + 1];
     let mut out = [0u8; REPORT_SIZE];

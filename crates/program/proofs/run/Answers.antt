@@ -14,6 +14,3 @@ run_in-requires-clause-past_limit g c = length-replicate {A = ℕ} 65537 0
 
 pub run_in-requires-clause-room : goal.run_in-requires-clause-room
 run_in-requires-clause-room g c = le_of_eq (sym (length-replicate {A = ℕ} 998711 0))
-
-pub returns : goal.returns
-returns g c = c.run_in.ensures
