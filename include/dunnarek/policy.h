@@ -18,7 +18,7 @@
  * length says; the buffer of policy_compare must not overlap a file.
  *
  * A thread with a stack of POLICY_STACK_SIZE bytes is enough for both calls. The most that was found
- * is 42,736 bytes for a comparison and 4,632 for a lookup, of which a thread that does nothing takes
+ * is 42,720 bytes for a comparison and 4,632 for a lookup, of which a thread that does nothing takes
  * 4,528; the frames of the deepest chain of calls add up to less than 62,000. The times below are of
  * one server's processor and an older compiler; docs/MEASUREMENTS.md has more.
  */

@@ -1,5 +1,6 @@
 -- Demand 3 of what a merging answers and writes, with covering lists in force whose merged list reads back from its file.
 -- Assumes nothing.
+use Rattle.std.specs.Prelude.{None, Option, Some}
 use Prim.Native.Nat.{ℕ}
 use native.Mathlib.Omega.{arith}
 use mathlib.Core.Path.{◌≡◌, refl, sym, ◌∙◌, ap, subst}
@@ -11,8 +12,6 @@ use lib.ListN.{length, take, drop, get_or}
 use lib.Seq.{take_at}
 use borrow.Author.Tests.{lt-ltb, le-ltb}
 use Rattle.policy.specs.declared.header.Header.{Header}
-use Rattle.policy.specs.declared.header.Found.{Found}
-use Rattle.policy.specs.declared.header.Found.TheVariants.{At, Nothing}
 use Rattle.policy.specs.declared.entry.Entry.{Entry}
 use Rattle.policy.specs.declared.refusal.Refusal.{Refusal}
 use Rattle.policy.specs.declared.refusal.Refusal.TheVariants.{Bare, Crowded, Conflict, Narrow}
@@ -68,10 +67,10 @@ module _ (p : List Entry) (ps : List (List Entry)) (covering : AllCovering heade
   }
 
 -- the header of a conflict is the one that rule 3 finds
-pub conflict_is : (p : List Entry) (ps : List (List Entry)) (h : Header) → Conflicts headers p ps h → conflict_of headers (p ∷ ps) ≡ At h
+pub conflict_is : (p : List Entry) (ps : List (List Entry)) (h : Header) → Conflicts headers p ps h → conflict_of headers (p ∷ ps) ≡ Some h
 conflict_is p ps h c = least_at headers (lacking (p ∷ ps)) h c.member c.empty c.earliest
 
-pub conflict_of_lem : (ps : List (List Entry)) (h : Header) → merge_of headers ps ≡ refused (Conflict h) → conflict_of headers ps ≡ At h
+pub conflict_of_lem : (ps : List (List Entry)) (h : Header) → merge_of headers ps ≡ refused (Conflict h) → conflict_of headers ps ≡ Some h
 conflict_of_lem [] h e = absurd (let z : ◌≡◌ {A = ℕ} 0 1 = cc in omega arith)
 conflict_of_lem (p ∷ ps) h e = conflict_is p ps h (conflict_tells headers p ps h e)
 
@@ -205,7 +204,7 @@ module _ (k : Book) (buffer : List ℕ) where
   module _ (p : List Entry) (ps : List (List Entry)) (is : in_force k ≡ p ∷ ps) (h : Header) (c : Conflicts headers p ps h) where
     -- the header whose entries are named is the conflict's
     pub conflict_answer_lem : also (refusal (Conflict h)) (entries_for k (refusal (Conflict h))) ≡ conflict_answer k h
-    conflict_answer_lem = ap (λ (f : Found). also (refusal (Conflict h)) (entries_at k f)) (ap (conflict_of headers) is ∙ conflict_is p ps h c)
+    conflict_answer_lem = ap (λ (f : Option Header). also (refusal (Conflict h)) (entries_at k f)) (ap (conflict_of headers) is ∙ conflict_is p ps h c)
 
     pub conflict_evidence : AllCovering headers (p ∷ ps) → Evidence k h (catchers_from 1 k h)
     conflict_evidence covering =
@@ -251,14 +250,14 @@ module _ (k : Book) (buffer : List ℕ) where
       named : (h : Header) → Conflicts headers p ps h → answer_naming (merge_of headers (p ∷ ps)) ≡ conflict_answer k h
       named h c = ap answer_naming (conflict_made headers p ps h c) ∙ conflict_answer_lem p ps is h c
 
-      never_bare : (w : Working) (c : Found) → finished headers w c ≡ refused Bare → ⊥
-      never_bare (list w) (At h) e = let z : ◌≡◌ {A = ℕ} 0 1 = cc in omega arith
-      never_bare (list w) Nothing e = let z : ◌≡◌ {A = ℕ} 0 1 = cc in omega arith
+      never_bare : (w : Working) (c : Option Header) → finished headers w c ≡ refused Bare → ⊥
+      never_bare (list w) (Some h) e = let z : ◌≡◌ {A = ℕ} 0 1 = cc in omega arith
+      never_bare (list w) None e = let z : ◌≡◌ {A = ℕ} 0 1 = cc in omega arith
       never_bare crowded c e = let z : ◌≡◌ {A = ℕ} 0 1 = cc in omega arith
 
-      was_crowded : (w : Working) (c : Found) → finished headers w c ≡ refused Crowded → w ≡ crowded
-      was_crowded (list w) (At h) e = absurd (let z : ◌≡◌ {A = ℕ} 0 1 = cc in omega arith)
-      was_crowded (list w) Nothing e = absurd (let z : ◌≡◌ {A = ℕ} 0 1 = cc in omega arith)
+      was_crowded : (w : Working) (c : Option Header) → finished headers w c ≡ refused Crowded → w ≡ crowded
+      was_crowded (list w) (Some h) e = absurd (let z : ◌≡◌ {A = ℕ} 0 1 = cc in omega arith)
+      was_crowded (list w) None e = absurd (let z : ◌≡◌ {A = ℕ} 0 1 = cc in omega arith)
       was_crowded crowded c e = refl
 
   pub demand_3 : AllCovering headers (in_force k) → ReadsBack (merge_of headers (in_force k)) → Demand3 k buffer (merging_of k buffer).0 (merging_of k buffer).1

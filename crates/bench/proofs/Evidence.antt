@@ -1,18 +1,16 @@
 -- What a refusal for conflict names: the entries catch its header, and their sets have nothing in common.
 -- Assumes nothing.
+use Rattle.std.specs.Prelude.{None, Option, Some}
 use Prim.Native.Nat.{ℕ, ◌+◌}
 use native.Mathlib.Omega.{arith}
 use mathlib.Core.Path.{◌≡◌, refl, sym, ◌∙◌, ap, ap₂}
 use mathlib.Core.Logic.{inl, inr}
 use mathlib.Core.Bool.{Bool, true, false, cond, ◌&&◌}
 use mathlib.Core.List.{List, [], ◌∷◌, ◌++◌, append-nil}
-use mathlib.Core.Option.{none, some}
 use lib.Dec.{eqb}
 use lib.ListN.{length, get_or}
 use Rattle.policy.specs.declared.header.Header.{Header}
 use Rattle.policy.specs.declared.entry.Entry.{Entry}
-use Rattle.policy.specs.declared.entry.Caught.{Caught}
-use Rattle.policy.specs.declared.entry.Caught.TheVariants.{By, Uncaught}
 use Rattle.policy.specs.Actions.{has}
 use Rattle.policy.specs.Header.{headers}
 use Rattle.policy.specs.Policy.{catcher, allowed, caught}
@@ -33,7 +31,7 @@ entry_at [] e back d = refl
 entry_at (x ∷ front) e back d = entry_at front e back d
 
 -- the set of the entry that catches the header is what its list allows
-set_allowed : (q : List Entry) (h : Header) (i : ℕ) → catcher q h ≡ By i → (a : ℕ) → has a (get_or q i empty_entry).actions ≡ permits a (allowed q h)
+set_allowed : (q : List Entry) (h : Header) (i : ℕ) → catcher q h ≡ Some i → (a : ℕ) → has a (get_or q i empty_entry).actions ≡ permits a (allowed q h)
 set_allowed q h i e a =
     let c = caught_by 0 q h i e in
     let s = c.2 in
@@ -52,18 +50,18 @@ set_allowed q h i e a =
 pub named_catchers : (p : ℕ) (k : Book) (h : Header) → ((q : List Entry) → In q (in_force k) → caught q h ≡ true)
     → (sets : List ℕ) × NamesCatchers p k h (catchers_from p k h) sets × ((a : ℕ) → in_all a sets ≡ all_permit a (in_force k) h)
 named_catchers p [] h c = ([], (refl, refl), λ a. refl)
-named_catchers p (none ∷ k) h c = named_catchers (p + 1) k h c
-named_catchers p (some q ∷ k) h c = go (catcher q h) refl (named_catchers (p + 1) k h λ l i. c l (inr i))
+named_catchers p (None ∷ k) h c = named_catchers (p + 1) k h c
+named_catchers p (Some q ∷ k) h c = go (catcher q h) refl (named_catchers (p + 1) k h λ l i. c l (inr i))
   where
-    go : (x : Caught) → catcher q h ≡ x
+    go : (x : Option ℕ) → catcher q h ≡ x
         → (sets : List ℕ) × NamesCatchers (p + 1) k h (catchers_from (p + 1) k h) sets × ((a : ℕ) → in_all a sets ≡ all_permit a (in_force k) h)
-        → (sets : List ℕ) × NamesCatchers p (some q ∷ k) h (catchers_from p (some q ∷ k) h) sets × ((a : ℕ) → in_all a sets ≡ all_permit a (in_force (some q ∷ k)) h)
-    go (By i) e r = (
+        → (sets : List ℕ) × NamesCatchers p (Some q ∷ k) h (catchers_from p (Some q ∷ k) h) sets × ((a : ℕ) → in_all a sets ≡ all_permit a (in_force (Some q ∷ k)) h)
+    go (Some i) e r = (
       (get_or q i empty_entry).actions ∷ r.0,
-      (i, catchers_from (p + 1) k h, r.0, ap (λ (x : Caught). entry_of p x ++ catchers_from (p + 1) k h) e, e, refl, r.1),
+      (i, catchers_from (p + 1) k h, r.0, ap (λ (x : Option ℕ). entry_of p x ++ catchers_from (p + 1) k h) e, e, refl, r.1),
       λ a. ap₂ (◌&&◌) (set_allowed q h i e a) (r.2 a),
     )
-    go Uncaught e r = clash (c q (inl refl)) (not_true (uncaught_by 0 q h e))
+    go None e r = clash (c q (inl refl)) (not_true (uncaught_by 0 q h e))
 
 -- ---- an answer that is no conflict names nothing
 

@@ -1,11 +1,11 @@
 -- What an accepted filing or withdrawal shows, and what the slot of an accepted filing holds.
 -- Assumes nothing.
+use Rattle.std.specs.Prelude.{None, Some}
 use Prim.Native.Nat.{ℕ, ◌-◌, ◌≤◌, min}
 use native.Mathlib.Omega.{arith}
 use mathlib.Core.Path.{◌≡◌, sym, ◌∙◌, ap}
 use mathlib.Core.Bool.{Bool, true, cond}
 use mathlib.Core.List.{List, [], ◌∷◌}
-use mathlib.Core.Option.{none, some}
 use lib.ListN.{length, replicate}
 use lib.Seq.{take-append_seam}
 use borrow.Author.Tests.{ne_eqb}
@@ -36,11 +36,11 @@ filing_tells p s e =
     record { low = between.0; high = between.1; file = passes_tell s filed_limit party.1 }
 
 -- a slot that was given a good file has its list in force
-pub slot_holds : (s : List ℕ) (n : ℕ) → GoodFile s filed_limit n → list_in_slot (slot_with s) ≡ some (list_in s)
+pub slot_holds : (s : List ℕ) (n : ℕ) → GoodFile s filed_limit n → list_in_slot (slot_with s) ≡ Some (list_in s)
 slot_holds s n g =
-    ap (λ (b : Bool). cond b none (some (slot_list (slot_with s)))) (ne_eqb (length s) 0 (positive (length s) g.size))
-    ∙ ap (λ (l : List ℕ). some (entries_from l 0 (min (records_in l) filed_limit))) (take-append_seam s (replicate (slot_size - length s) 0))
-    ∙ ap (λ (k : ℕ). some (entries_from s 0 k)) (ap (λ (k : ℕ). min k filed_limit) (records_counted s n g.size) ∙ few n g.most_is ∙ sym g.count_is)
+    ap (λ (b : Bool). cond b None (Some (slot_list (slot_with s)))) (ne_eqb (length s) 0 (positive (length s) g.size))
+    ∙ ap (λ (l : List ℕ). Some (entries_from l 0 (min (records_in l) filed_limit))) (take-append_seam s (replicate (slot_size - length s) 0))
+    ∙ ap (λ (k : ℕ). Some (entries_from s 0 k)) (ap (λ (k : ℕ). min k filed_limit) (records_counted s n g.size) ∙ few n g.most_is ∙ sym g.count_is)
   where
     positive : (l : ℕ) → l ≡ place_in s n → l ≡ 0 → ⊥
     positive l e z = omega arith

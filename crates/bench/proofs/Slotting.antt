@@ -1,5 +1,6 @@
 -- What the functions on slots show.
 -- Assumes nothing.
+use Rattle.std.specs.Prelude.{None, Option, Some}
 use Prim.Native.Nat.{ℕ, zero, suc, ◌+◌, ◌-◌, ◌/◌, ◌<◌, ◌≤◌, min, max}
 use native.Mathlib.Omega.{arith}
 use native.Mathlib.Nat.{zero-div}
@@ -7,7 +8,6 @@ use native.Mathlib.Numerals.{add-one}
 use mathlib.Core.Path.{◌≡◌, refl, sym, ◌∙◌, ap, ap₂, subst}
 use mathlib.Core.Bool.{Bool, true, false, cond}
 use mathlib.Core.List.{List, [], ◌∷◌, ◌++◌, map, append-nil}
-use mathlib.Core.Option.{Option, none, some}
 use lib.Dec.{leb, eqb}
 use lib.ListN.{length, get_or, take, drop, replicate, length-take, length-map, get_or-map}
 use lib.Seq.{paste, take-length, take-suc, take_all}
@@ -60,18 +60,15 @@ slot_fits slot f = entries_fit (bytes_in slot) 0 (min (records_in (bytes_in slot
 
 -- no bytes behind a head, no entries
 none_behind : (s : List ℕ) → length s ≤ head_size → filed_in s ≡ []
-none_behind s l = ap (λ (n : ℕ). entries_from s 0 (min n filed_limit)) (ap (◌/ record_size (version_in s)) (none (length s) l) ∙ zero-div (record_size (version_in s)))
+none_behind s l = ap (λ (n : ℕ). entries_from s 0 (min n filed_limit)) (ap (◌/ record_size (version_in s)) (nothing (length s) l) ∙ zero-div (record_size (version_in s)))
   where
-    none : (n : ℕ) → n ≤ head_size → n - head_size ≡ 0
-    none n l = omega arith
+    nothing : (n : ℕ) → n ≤ head_size → n - head_size ≡ 0
+    nothing n l = omega arith
 
 -- the bytes lent are the slot's file, and at least a head
-pub slot_lends : (slot : Slot) (end : ℕ) → length slot.bytes ≡ slot_size → end ≡ max head_size (min slot.length slot_size) → filed_in (take (end - 0) (drop 0 slot.bytes)) ≡ slot_list slot
-slot_lends slot end z e = ap (λ (n : ℕ). filed_in (take n slot.bytes)) (all end) ∙ go (leb head_size slot.length) refl
+pub slot_lends : (slot : Slot) (end : ℕ) → length slot.bytes ≡ slot_size → end ≡ max head_size (min slot.length slot_size) → filed_in (take end slot.bytes) ≡ slot_list slot
+slot_lends slot end z e = go (leb head_size slot.length) refl
   where
-    all : (n : ℕ) → n - 0 ≡ n
-    all n = omega arith
-
     t : List ℕ
     t = take end slot.bytes
 
@@ -101,13 +98,13 @@ no_slot = record { bytes = []; length = 0 }
 
 in_force-snoc : (k : Book) (x : Option (List Entry)) → in_force (k ++ x ∷ []) ≡ in_force k ++ in_force (x ∷ [])
 in_force-snoc [] x = refl
-in_force-snoc (none ∷ k) x = in_force-snoc k x
-in_force-snoc (some p ∷ k) x = ap (p ∷◌) (in_force-snoc k x)
+in_force-snoc (None ∷ k) x = in_force-snoc k x
+in_force-snoc (Some p ∷ k) x = ap (p ∷◌) (in_force-snoc k x)
 
 each_snoc : (P : List Entry → Type 0) (k : Book) (x : Option (List Entry)) → EachSlot P k → EachSlot P (x ∷ []) → EachSlot P (k ++ x ∷ [])
 each_snoc P [] x e f = f
-each_snoc P (none ∷ k) x e f = each_snoc P k x e f
-each_snoc P (some p ∷ k) x e f = (e.0, each_snoc P k x e.1 f)
+each_snoc P (None ∷ k) x e f = each_snoc P k x e f
+each_snoc P (Some p ∷ k) x e f = (e.0, each_snoc P k x e.1 f)
 
 module _ (slots : List Slot) (i : ℕ) (w : Option Working) (n : length slots ≡ 8) (e : Staged (take i (map list_in_slot slots)) w) where
   abbrev slot : Slot
@@ -119,7 +116,7 @@ module _ (slots : List Slot) (i : ℕ) (w : Option Working) (n : length slots �
   more : (x : Option (List Entry)) → i < 8 → list_in_slot slot ≡ x → take (i + 1) (map list_in_slot slots) ≡ k ++ x ∷ []
   more x l q =
       ap (λ (n : ℕ). take n (map list_in_slot slots)) (add-one i)
-      ∙ take-suc (map list_in_slot slots) i none (long (length (map list_in_slot slots)) (length-map slots list_in_slot ∙ n))
+      ∙ take-suc (map list_in_slot slots) i None (long (length (map list_in_slot slots)) (length-map slots list_in_slot ∙ n))
       ∙ ap (λ (x : Option (List Entry)). k ++ x ∷ []) (get_or-map list_in_slot slots i no_slot ∙ q)
     where
       long : (m : ℕ) → m ≡ 8 → i < m
@@ -127,17 +124,17 @@ module _ (slots : List Slot) (i : ℕ) (w : Option Working) (n : length slots �
 
   pub staged_vacant : {t : Bool} → i < 8 → t ≡ eqb slot.length 0 → t ≡ true → Staged (take (i + 1) (map list_in_slot slots)) w
   staged_vacant l y z =
-      let q = more none l (ap (λ (t : Bool). cond t none (some (slot_list slot))) (sym y ∙ z)) in
+      let q = more None l (ap (λ (t : Bool). cond t None (Some (slot_list slot))) (sym y ∙ z)) in
       subst (λ (k : Book). Staged k w) (sym q)
-      (e.0 ∙ ap (added_all headers none) (sym (in_force-snoc k none ∙ append-nil (in_force k))), each_snoc AllFit k none e.1 tt)
+      (e.0 ∙ ap (added_all headers None) (sym (in_force-snoc k None ∙ append-nil (in_force k))), each_snoc AllFit k None e.1 tt)
 
   module _ {t : Bool} (l : i < 8) (y : t ≡ eqb slot.length 0) (z : t ≡ false) (f : AllFit (slot_list slot)) where
     pub staged_next : (v : Option Working) → v ≡ added headers w (slot_list slot) → Staged (take (i + 1) (map list_in_slot slots)) v
     staged_next v a =
-        let q = more (some (slot_list slot)) l (ap (λ (t : Bool). cond t none (some (slot_list slot))) (sym y ∙ z)) in
+        let q = more (Some (slot_list slot)) l (ap (λ (t : Bool). cond t None (Some (slot_list slot))) (sym y ∙ z)) in
         subst (λ (k : Book). Staged k v) (sym q) (
-          stages_next (in_force k) (slot_list slot) w v e.0 a ∙ ap (added_all headers none) (sym (in_force-snoc k (some (slot_list slot)))),
-          each_snoc AllFit k (some (slot_list slot)) e.1 (f, tt),
+          stages_next (in_force k) (slot_list slot) w v e.0 a ∙ ap (added_all headers None) (sym (in_force-snoc k (Some (slot_list slot)))),
+          each_snoc AllFit k (Some (slot_list slot)) e.1 (f, tt),
         )
 
   pub staged_all : 8 ≤ i → Staged (map list_in_slot slots) w

@@ -1,12 +1,12 @@
 -- The bench after any list of calls holds the book that 01 reckons, and every list in the book is a filed one.
 -- Assumes nothing.
+use Rattle.std.specs.Prelude.{None, Option, Some}
 use Prim.Native.Nat.{ℕ, zero, suc, ◌-◌, ◌≤◌}
 use native.Mathlib.Omega.{arith}
 use mathlib.Core.Path.{◌≡◌, refl, sym, ◌∙◌, ap, subst}
 use mathlib.Core.Logic.{inl, inr}
 use mathlib.Core.Bool.{Bool, true, false, cond}
 use mathlib.Core.List.{List, [], ◌∷◌, ◌++◌, map}
-use mathlib.Core.Option.{Option, none, some}
 use lib.ListN.{length, set, length-set}
 use Rattle.policy.specs.declared.entry.Entry.{Entry}
 use Rattle.policy.specs.Header.{headers}
@@ -44,14 +44,14 @@ map_set f (x ∷ l) (suc i) a = ap (f x ∷◌) (map_set f l i a)
 step_holds : (b : Bench) (c : Call) → book_of (bench_step b c) ≡ book_step (book_of b) c
 step_holds b (filing p s) = go (is_accepted (filing_of p s)) refl
   where
-    go : (t : Bool) → is_accepted (filing_of p s) ≡ t → book_of (cond t (with_slot b p (slot_with s)) b) ≡ cond t (set (book_of b) (p - 1) (some (list_in s))) (book_of b)
+    go : (t : Bool) → is_accepted (filing_of p s) ≡ t → book_of (cond t (with_slot b p (slot_with s)) b) ≡ cond t (set (book_of b) (p - 1) (Some (list_in s))) (book_of b)
     go true e =
         map_set list_in_slot b.slots (p - 1) (slot_with s)
         ∙ ap (set (book_of b) (p - 1)) (slot_holds s (count_in s) (filing_tells p s e).file.good)
     go false e = refl
 step_holds b (withdrawal p) = go (is_accepted (withdrawal_of (book_of b) p))
   where
-    go : (t : Bool) → book_of (cond t (with_slot b p vacant_slot) b) ≡ cond t (set (book_of b) (p - 1) none) (book_of b)
+    go : (t : Bool) → book_of (cond t (with_slot b p vacant_slot) b) ≡ cond t (set (book_of b) (p - 1) None) (book_of b)
     go true = map_set list_in_slot b.slots (p - 1) vacant_slot
     go false = refl
 step_holds b (merging buffer) = refl
@@ -82,36 +82,36 @@ anything (installing ranking buffer ∷ cs) = anything cs
 anything (trying p s buffer ∷ cs) = (tt, anything cs)
 
 module _ (P : List Entry → Type 0) where
-  put : (k : Book) (i : ℕ) (p : List Entry) → P p → EachSlot P k → EachSlot P (set k i (some p))
+  put : (k : Book) (i : ℕ) (p : List Entry) → P p → EachSlot P k → EachSlot P (set k i (Some p))
   put [] i p a e = tt
-  put (none ∷ k) zero p a e = (a, e)
-  put (some q ∷ k) zero p a e = (a, e.1)
-  put (none ∷ k) (suc i) p a e = put k i p a e
-  put (some q ∷ k) (suc i) p a e = (e.0, put k i p a e.1)
+  put (None ∷ k) zero p a e = (a, e)
+  put (Some q ∷ k) zero p a e = (a, e.1)
+  put (None ∷ k) (suc i) p a e = put k i p a e
+  put (Some q ∷ k) (suc i) p a e = (e.0, put k i p a e.1)
 
-  emptied : (k : Book) (i : ℕ) → EachSlot P k → EachSlot P (set k i none)
+  emptied : (k : Book) (i : ℕ) → EachSlot P k → EachSlot P (set k i None)
   emptied [] i e = tt
-  emptied (none ∷ k) zero e = e
-  emptied (some q ∷ k) zero e = e.1
-  emptied (none ∷ k) (suc i) e = emptied k i e
-  emptied (some q ∷ k) (suc i) e = (e.0, emptied k i e.1)
+  emptied (None ∷ k) zero e = e
+  emptied (Some q ∷ k) zero e = e.1
+  emptied (None ∷ k) (suc i) e = emptied k i e
+  emptied (Some q ∷ k) (suc i) e = (e.0, emptied k i e.1)
 
   pub in_force_lem : (k : Book) → EachSlot P k → (q : List Entry) → In q (in_force k) → P q
   in_force_lem [] e q i = absurd i
-  in_force_lem (none ∷ k) e q i = in_force_lem k e q i
-  in_force_lem (some p ∷ k) e q (inl i) = subst P (sym i) e.0
-  in_force_lem (some p ∷ k) e q (inr i) = in_force_lem k e.1 q i
+  in_force_lem (None ∷ k) e q i = in_force_lem k e q i
+  in_force_lem (Some p ∷ k) e q (inl i) = subst P (sym i) e.0
+  in_force_lem (Some p ∷ k) e q (inr i) = in_force_lem k e.1 q i
 
   module _ (Q : List ℕ → Type 0) (filed : (p : ℕ) (s : List ℕ) → Q s → Files p s → P (list_in s)) where
     step_keeps : (k : Book) (c : Call) → FilesHave Q (c ∷ []) → EachSlot P k → EachSlot P (book_step k c)
     step_keeps k (filing p s) b e = go (is_accepted (filing_of p s)) refl
       where
-        go : (t : Bool) → is_accepted (filing_of p s) ≡ t → EachSlot P (cond t (set k (p - 1) (some (list_in s))) k)
+        go : (t : Bool) → is_accepted (filing_of p s) ≡ t → EachSlot P (cond t (set k (p - 1) (Some (list_in s))) k)
         go true a = put k (p - 1) (list_in s) (filed p s b.0 (filing_tells p s a)) e
         go false a = e
     step_keeps k (withdrawal p) b e = go (is_accepted (withdrawal_of k p))
       where
-        go : (t : Bool) → EachSlot P (cond t (set k (p - 1) none) k)
+        go : (t : Bool) → EachSlot P (cond t (set k (p - 1) None) k)
         go true = emptied k (p - 1) e
         go false = e
     step_keeps k (merging buffer) b e = e
@@ -157,8 +157,8 @@ all_slots cs = go empty_book cs refl
     cases false k i x e = e
 
     step : (k : Book) (c : Call) → length k ≡ parties → length (book_step k c) ≡ parties
-    step k (filing p s) e = cases (is_accepted (filing_of p s)) k (p - 1) (some (list_in s)) e
-    step k (withdrawal p) e = cases (is_accepted (withdrawal_of k p)) k (p - 1) none e
+    step k (filing p s) e = cases (is_accepted (filing_of p s)) k (p - 1) (Some (list_in s)) e
+    step k (withdrawal p) e = cases (is_accepted (withdrawal_of k p)) k (p - 1) None e
     step k (merging buffer) e = e
     step k (installing ranking buffer) e = e
     step k (trying p s buffer) e = e

@@ -1,12 +1,12 @@
 -- What a trial shows, by the contracts of filing and merging alone.
 -- Assumes nothing.
+use Rattle.std.specs.Prelude.{Result, None, Some, Ok, Err}
 use Prim.Native.Nat.{ℕ, zero, suc, ◌-◌, ◌<◌}
 use native.Mathlib.Omega.{arith}
 use mathlib.Core.Path.{◌≡◌, refl, sym, ◌∙◌, ap, subst}
 use mathlib.Core.Logic.{inl, inr}
 use mathlib.Core.Bool.{Bool, true, false, cond}
 use mathlib.Core.List.{List, [], ◌∷◌, ◌++◌}
-use mathlib.Core.Option.{none, some}
 use lib.ListN.{length, set}
 use Rattle.policy.specs.declared.entry.Entry.{Entry}
 use Rattle.policy.specs.declared.refusal.Refusal.{Refusal}
@@ -17,14 +17,12 @@ use Rattle.wire.specs.Format.{list_in}
 use Rattle.wire.specs.Answers.{ifAccepted}
 use Rattle.reconcile.specs.Crossproduct.{In}
 use Rattle.bench.specs.declared.calls.Bench.{Bench}
-use Rattle.bench.specs.declared.calls.FileAnswer.{FileAnswer}
-use Rattle.bench.specs.declared.calls.FileAnswer.TheVariants as file
 use Rattle.bench.specs.declared.calls.FileResult.{FileResult}
 use Rattle.bench.specs.declared.calls.MergeResult.{MergeResult}
 use Rattle.bench.specs.Book.{parties, Book, in_force}
 use Rattle.bench.specs.Answers.{filed, filing_of, merged_as, merging_of}
 use Rattle.bench.specs.Held.{book_of}
-use Rattle.bench.specs.Calls.{filing, merging, trying, bench_filed, trying_of, Result, result_of, book_step, book_after}
+use Rattle.bench.specs.Calls.{filing, merging, trying, bench_filed, trying_of, CallResult, result_of, book_step, book_after}
 use Rattle.bench.specs.Demand3.{Demand3}
 use Rattle.bench.specs.Trying.{Trying}
 use Rattle.bench.proofs.Filing.{filing_tells}
@@ -40,12 +38,12 @@ module _ (b : Bench) (p : ℕ) (s buffer : List ℕ) where
 -- ---- what it keeps to
 
 -- a list that is put in a slot is in force
-stands : (k : Book) (i : ℕ) (q : List Entry) → i < length k → In q (in_force (set k i (some q)))
+stands : (k : Book) (i : ℕ) (q : List Entry) → i < length k → In q (in_force (set k i (Some q)))
 stands [] i q l = absurd (omega arith)
-stands (none ∷ k) zero q l = inl refl
-stands (some r ∷ k) zero q l = inl refl
-stands (none ∷ k) (suc i) q l = stands k i q (omega arith)
-stands (some r ∷ k) (suc i) q l = inr (stands k i q (omega arith))
+stands (None ∷ k) zero q l = inl refl
+stands (Some r ∷ k) zero q l = inl refl
+stands (None ∷ k) (suc i) q l = stands k i q (omega arith)
+stands (Some r ∷ k) (suc i) q l = inr (stands k i q (omega arith))
 
 module _ (p : ℕ) (s buffer : List ℕ) (k : Book) (answer : Answer) where
   pub not_filed_keeps : is_accepted (filing_of p s) ≡ false → answer ≡ filing_of p s → Trying p s k buffer answer buffer
@@ -55,7 +53,7 @@ module _ (p : ℕ) (s buffer : List ℕ) (k : Book) (answer : Answer) where
   filed_keeps after l y d = record {
     not_filed = λ q. clash y q;
     as_filed = λ q. d;
-    tried_in_force = λ q. subst (λ (t : Bool). In (list_in s) (in_force (cond t (set k (p - 1) (some (list_in s))) k))) (sym y) (stands k (p - 1) (list_in s) (place (length k) l));
+    tried_in_force = λ q. subst (λ (t : Bool). In (list_in s) (in_force (cond t (set k (p - 1) (Some (list_in s))) k))) (sym y) (stands k (p - 1) (list_in s) (place (length k) l));
   }
     where
       place : (n : ℕ) → n ≡ parties → p - 1 < n
@@ -65,14 +63,14 @@ module _ (p : ℕ) (s buffer : List ℕ) (k : Book) (answer : Answer) where
 
 abbrev pub TriedRight : Bench → ℕ → List ℕ → List ℕ → MergeResult → List ℕ → Type 0
 TriedRight b p s buffer r after =
-    (◌≡◌ {A = Result} (merged_as r.answer r.named, r.bench, after) (result_of b (trying p s buffer)))
+    (◌≡◌ {A = CallResult} (merged_as r.answer r.named, r.bench, after) (result_of b (trying p s buffer)))
     × Kept b (trying p s buffer) r.bench (λ k. Trying p s k buffer (merged_as r.answer r.named) after)
 
-module _ (b n : Bench) (p : ℕ) (s buffer : List ℕ) (a : FileAnswer) (f : FiledRight b p s a n) where
+module _ (b n : Bench) (p : ℕ) (s buffer : List ℕ) (a : Result ℕ Refusal) (f : FiledRight b p s a n) where
   answers : filed a ≡ filing_of p s
-  answers = ap (λ (r : Result). r.0) f.0
+  answers = ap (λ (r : CallResult). r.0) f.0
 
-  pub trial_refused : (x : Refusal) (r : MergeResult) → a ≡ file.Refused x → r.bench ≡ b → merged_as r.answer r.named ≡ refusal x → TriedRight b p s buffer r buffer
+  pub trial_refused : (x : Refusal) (r : MergeResult) → a ≡ Err x → r.bench ≡ b → merged_as r.answer r.named ≡ refusal x → TriedRight b p s buffer r buffer
   trial_refused x r e same told = (
     (λ i. (says i, same i, buffer)) ∙ ap (λ (y : Answer × List ℕ). (y.0, b, y.1)) (sym (tried_by b p s buffer false no)),
     λ cs c. (leads_on b r.bench (trying p s buffer) same cs c, not_filed_keeps p s buffer (book_after cs) (merged_as r.answer r.named) no says),
@@ -87,11 +85,11 @@ module _ (b n : Bench) (p : ℕ) (s buffer : List ℕ) (a : FileAnswer) (f : Fil
       says : merged_as r.answer r.named ≡ filing_of p s
       says = told ∙ refuses
 
-  pub trial_merged : (i : ℕ) (m : MergeResult) (after : List ℕ) → a ≡ file.Filed i → MergedRight n buffer m after
+  pub trial_merged : (i : ℕ) (m : MergeResult) (after : List ℕ) → a ≡ Ok i → MergedRight n buffer m after
       → TriedRight b p s buffer (record { bench = b; answer = m.answer; named = m.named }) after
   trial_merged i m after e right = (
     (λ j. ((right.0 j).0, b, (right.0 j).2))
-        ∙ ap (λ (n : Bench). ((merging_of (book_of n) buffer).0, b, (merging_of (book_of n) buffer).1)) (ap (λ (r : Result). r.1) f.0)
+        ∙ ap (λ (n : Bench). ((merging_of (book_of n) buffer).0, b, (merging_of (book_of n) buffer).1)) (ap (λ (r : CallResult). r.1) f.0)
         ∙ ap (λ (y : Answer × List ℕ). (y.0, b, y.1)) (sym (tried_by b p s buffer true yes)),
     λ cs c. (
       leads_on b b (trying p s buffer) refl cs c,
@@ -108,10 +106,10 @@ module _ (b n : Bench) (p : ℕ) (s buffer : List ℕ) (a : FileAnswer) (f : Fil
 -- what a trial answers and leaves in its buffer is filing's answer where filing refuses, and else what a merging answers and leaves there on the bench that
 -- filing handed back; its own bench is as it was
 pub trial_is_filing_and_merging : (b : Bench) (p : ℕ) (s buffer : List ℕ) (f : FileResult) (m t : MergeResult) (after tried : List ℕ)
-    → ◌≡◌ {A = Result} (filed f.answer, f.bench, []) (result_of b (filing p s))
-    → ◌≡◌ {A = Result} (merged_as m.answer m.named, m.bench, after) (result_of f.bench (merging buffer))
-    → ◌≡◌ {A = Result} (merged_as t.answer t.named, t.bench, tried) (result_of b (trying p s buffer))
-    → ◌≡◌ {A = Result} (merged_as t.answer t.named, t.bench, tried)
+    → ◌≡◌ {A = CallResult} (filed f.answer, f.bench, []) (result_of b (filing p s))
+    → ◌≡◌ {A = CallResult} (merged_as m.answer m.named, m.bench, after) (result_of f.bench (merging buffer))
+    → ◌≡◌ {A = CallResult} (merged_as t.answer t.named, t.bench, tried) (result_of b (trying p s buffer))
+    → ◌≡◌ {A = CallResult} (merged_as t.answer t.named, t.bench, tried)
     (ifAccepted (filed f.answer) (merged_as m.answer m.named, b, after) (filed f.answer, b, buffer))
 trial_is_filing_and_merging b p s buffer f m t after tried files merges tries =
     tries ∙ sym ((λ i. ifAccepted (files i).0 ((merged i).0, b, (merged i).1) ((files i).0, b, buffer)) ∙ beside (is_accepted (filing_of p s)))
@@ -120,9 +118,9 @@ trial_is_filing_and_merging b p s buffer f m t after tried files merges tries =
     on_filed = merging_of (book_of (bench_filed b p s)) buffer
 
     merged : ◌≡◌ {A = Answer × List ℕ} (merged_as m.answer m.named, after) on_filed
-    merged = (λ i. ((merges i).0, (merges i).2)) ∙ ap (λ (n : Bench). merging_of (book_of n) buffer) (ap (λ (r : Result). r.1) files)
+    merged = (λ i. ((merges i).0, (merges i).2)) ∙ ap (λ (n : Bench). merging_of (book_of n) buffer) (ap (λ (r : CallResult). r.1) files)
 
-    beside : (y : Bool) → ◌≡◌ {A = Result} (cond y (on_filed.0, b, on_filed.1) (filing_of p s, b, buffer))
+    beside : (y : Bool) → ◌≡◌ {A = CallResult} (cond y (on_filed.0, b, on_filed.1) (filing_of p s, b, buffer))
         ((cond y on_filed (filing_of p s, buffer)).0, b, (cond y on_filed (filing_of p s, buffer)).1)
     beside true = refl
     beside false = refl

@@ -1,6 +1,5 @@
 -- The book (01, "The bench"): a slot for each party, with the list in force.
-use Rattle.std.specs.Prelude.{ℕ, List, [], ◌∷◌, replicate}
-use Rattle.std.proofs.Math.Option.{Option, none, some}
+use Rattle.std.specs.Prelude.{ℕ, List, [], ◌∷◌, replicate, None, Option, Some}
 use Rattle.policy.specs.declared.entry.Entry.{Entry}
 
 -- how many parties there are
@@ -12,10 +11,10 @@ Book = List (Option (List Entry))
 
 -- at the opening
 abbrev pub empty_book : Book
-empty_book = replicate parties none
+empty_book = replicate parties None
 
 -- the lists in force, in rising number of their parties
 abbrev pub in_force : Book → List (List Entry)
 in_force [] = []
-in_force (none ∷ k) = in_force k
-in_force (some p ∷ k) = p ∷ in_force k
+in_force (None ∷ k) = in_force k
+in_force (Some p ∷ k) = p ∷ in_force k

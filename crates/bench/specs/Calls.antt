@@ -1,6 +1,5 @@
 -- Lists of calls: the bench that they make, and the book that 01 reckons from their arguments.
-use Rattle.std.specs.Prelude.{ℕ, ◌-◌, cond, List, [], ◌∷◌, set}
-use Rattle.std.proofs.Math.Option.{none, some}
+use Rattle.std.specs.Prelude.{ℕ, ◌-◌, cond, List, [], ◌∷◌, set, None, Some}
 use Rattle.policy.specs.Refusals.{Answer, is_accepted}
 use Rattle.wire.specs.Format.{Bytes, list_in}
 use Rattle.wire.specs.Answers.{ifAccepted}
@@ -30,10 +29,10 @@ abbrev pub trying_of : Bench → ℕ → List ℕ → List ℕ → Answer × Lis
 trying_of b p s buffer = ifAccepted (filing_of p s) (merging_of (book_of (bench_filed b p s)) buffer) (filing_of p s, buffer)
 
 -- the answer, the bench, and the final contents of the buffer that was lent; nothing where none was
-abbrev pub Result : Type 0
-Result = Answer × Bench × List ℕ
+abbrev pub CallResult : Type 0
+CallResult = Answer × Bench × List ℕ
 
-abbrev pub result_of : Bench → Call → Result
+abbrev pub result_of : Bench → Call → CallResult
 result_of b (filing p s) = (filing_of p s, bench_filed b p s, [])
 result_of b (withdrawal p) = (withdrawal_of (book_of b) p, bench_withdrawn b p, [])
 result_of b (merging buffer) = ((merging_of (book_of b) buffer).0, b, (merging_of (book_of b) buffer).1)
@@ -68,18 +67,18 @@ unfoldable pub bench_after : List Call → Bench
 bench_after cs = bench_from open_bench cs
 
 -- what each of them hands back
-abbrev pub results_from : Bench → List Call → List Result
+abbrev pub results_from : Bench → List Call → List CallResult
 results_from b [] = []
 results_from b (c ∷ cs) = result_of b c ∷ results_from (bench_step b c) cs
 
-unfoldable pub results_of : List Call → List Result
+unfoldable pub results_of : List Call → List CallResult
 results_of cs = results_from open_bench cs
 
 -- ---- the book, reckoned from the calls' arguments
 
 abbrev pub book_step : Book → Call → Book
-book_step k (filing p s) = cond (is_accepted (filing_of p s)) (set k (p - 1) (some (list_in s))) k
-book_step k (withdrawal p) = cond (is_accepted (withdrawal_of k p)) (set k (p - 1) none) k
+book_step k (filing p s) = cond (is_accepted (filing_of p s)) (set k (p - 1) (Some (list_in s))) k
+book_step k (withdrawal p) = cond (is_accepted (withdrawal_of k p)) (set k (p - 1) None) k
 book_step k (merging buffer) = k
 book_step k (installing ranking buffer) = k
 book_step k (trying p s buffer) = k

@@ -1,6 +1,5 @@
 -- Demand 2, its round trips: reading and writing undo each other. (Lookup, refinement and merging are those of the definitions by the calls' own contracts.)
-use Rattle.std.specs.Prelude.{ℕ, List, [], ◌∷◌, ◌++◌, ltb, length}
-use Rattle.std.proofs.Math.Option.{Option}
+use Rattle.std.specs.Prelude.{ℕ, List, [], ◌∷◌, ◌++◌, ltb, length, Option}
 use Rattle.policy.specs.declared.refusal.Refusal.TheVariants.{Narrow}
 use Rattle.policy.specs.Refusals.{Answer, accepted, refuse, first_of}
 use Rattle.wire.specs.declared.list.Entries.{Entries}

@@ -1,10 +1,8 @@
 -- Demand 3, sentence by sentence: what a merging keeps to, with the book `k` and the lists `ps` in force, in rising number of their parties.
 -- `answer` is its answer, `buffer` what the lent buffer held before and `after` what it holds then.
-use Rattle.std.specs.Prelude.{ℕ, ◌+◌, ◌≤◌, ◌<◌, ◌≡◌, ◌↔◌, ◌⊎◌, Bool, true, false, ◌&&◌, List, [], ◌∷◌, ◌++◌, length, take, get_or}
-use Rattle.std.proofs.Math.Option.{none, some}
+use Rattle.std.specs.Prelude.{ℕ, ◌+◌, ◌≤◌, ◌<◌, ◌≡◌, ◌↔◌, ◌⊎◌, Bool, true, false, ◌&&◌, List, [], ◌∷◌, ◌++◌, length, take, get_or, None, Some}
 use Rattle.policy.specs.declared.header.Header.{Header}
 use Rattle.policy.specs.declared.entry.Entry.{Entry}
-use Rattle.policy.specs.declared.entry.Caught.TheVariants.{By}
 use Rattle.policy.specs.declared.refusal.Refusal.TheVariants.{Bare, Crowded, Narrow}
 use Rattle.policy.specs.Actions.{has}
 use Rattle.policy.specs.Header.{before, among, headers}
@@ -31,9 +29,9 @@ pub record LeastWithout (ps : List (List Entry)) (h : Header) : Type 0 where
 -- the values name, for each party in force in rising number from p on, the entry of its list that catches the header; the sets are those of these entries
 abbrev pub NamesCatchers : ℕ → Book → Header → List ℕ → List ℕ → Type 0
 NamesCatchers p [] h values sets = (values ≡ []) × (sets ≡ [])
-NamesCatchers p (none ∷ k) h values sets = NamesCatchers (p + 1) k h values sets
-NamesCatchers p (some q ∷ k) h values sets =
-    (i : ℕ) × (vs : List ℕ) × (ss : List ℕ) × (values ≡ p ∷ i ∷ vs) × (catcher q h ≡ By i) × (sets ≡ (get_or q i empty_entry).actions ∷ ss) × NamesCatchers (p + 1) k h vs ss
+NamesCatchers p (None ∷ k) h values sets = NamesCatchers (p + 1) k h values sets
+NamesCatchers p (Some q ∷ k) h values sets =
+    (i : ℕ) × (vs : List ℕ) × (ss : List ℕ) × (values ≡ p ∷ i ∷ vs) × (catcher q h ≡ Some i) × (sets ≡ (get_or q i empty_entry).actions ∷ ss) × NamesCatchers (p + 1) k h vs ss
 
 -- action a is in all the sets
 abbrev pub in_all : ℕ → List ℕ → Bool

@@ -1,6 +1,5 @@
 -- The bench's value: what its slots hold, for every value whatever.
-use Rattle.std.specs.Prelude.{ℕ, ◌-◌, min, cond, List, ◌++◌, map, eqb, length, take, set, replicate}
-use Rattle.std.proofs.Math.Option.{Option, none, some}
+use Rattle.std.specs.Prelude.{ℕ, ◌-◌, min, cond, List, ◌++◌, map, eqb, length, take, set, replicate, None, Option, Some}
 use Rattle.policy.specs.declared.entry.Entry.{Entry}
 use Rattle.wire.specs.Format.{merged_version, filed_limit, file_size, records_in, entries_from}
 use Rattle.bench.specs.declared.slots.Slot.{Slot}
@@ -28,7 +27,7 @@ slot_list s = entries_from (bytes_in s) 0 (min (records_in (bytes_in s)) filed_l
 
 -- the list that a slot has in force
 abbrev pub list_in_slot : Slot → Option (List Entry)
-list_in_slot s = cond (eqb s.length 0) none (some (slot_list s))
+list_in_slot s = cond (eqb s.length 0) None (Some (slot_list s))
 
 abbrev pub book_of : Bench → Book
 book_of b = map list_in_slot b.slots

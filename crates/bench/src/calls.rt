@@ -3,21 +3,19 @@ ghost use Rattle.std.specs.Prelude.{◌≡◌, List, [], ◌∷◌, ◌++◌};
 ghost use Rattle.policy.specs.Refusals.{refusal};
 ghost use Rattle.bench.specs.Answers.{filed, withdrew, merged_as};
 ghost use Rattle.bench.specs.Held.{open_bench};
-ghost use Rattle.bench.specs.steps.Naming.{Answers, ResultOf};
-ghost use Rattle.bench.specs.Calls.{Call, filing, withdrawal, merging, installing, trying, Result, result_of, bench_after, book_after};
+ghost use Rattle.bench.specs.steps.Naming.{ResultOf};
+ghost use Rattle.bench.specs.Calls.{Call, filing, withdrawal, merging, installing, trying, CallResult, result_of, bench_after, book_after};
 ghost use Rattle.bench.specs.Demand3.{Demand3};
 ghost use Rattle.bench.specs.Installing.{Installing};
 ghost use Rattle.bench.specs.Trying.{Trying};
 
-use crate::named::{Named, conflict_in, name_catchers, none_named};
+use crate::named::{conflict_in, name_catchers, none_named};
 use crate::slots::{Slot, add_slots, slot_with, vacant_slot};
-use policy::header::Found;
-use policy::ranking::is_ranking;
+use policy::ranking::{Ranking, is_ranking};
 use policy::refusal::Refusal;
 use reconcile::ending::{Merged, end_installing, end_merging};
 use reconcile::stage::ROWS;
 use region::covering::check_list;
-use wire::check::Checked;
 
 #[derive(Clone, Copy)]
 pub struct Bench {
@@ -25,71 +23,44 @@ pub struct Bench {
 }
 
 #[derive(Clone, Copy)]
-pub enum FileAnswer {
-    // The number of entries.
-    Filed(usize),
-    Refused(Refusal),
-}
-
-#[derive(Clone, Copy)]
 pub struct FileResult {
     pub bench: Bench,
-    pub answer: FileAnswer,
-}
-
-#[derive(Clone, Copy)]
-pub enum WithdrawAnswer {
-    Withdrawn,
-    Refused(Refusal),
+    // The number of entries.
+    pub answer: Result<usize, Refusal>,
 }
 
 #[derive(Clone, Copy)]
 pub struct WithdrawResult {
     pub bench: Bench,
-    pub answer: WithdrawAnswer,
-}
-
-#[derive(Clone, Copy)]
-pub enum MergeAnswer {
-    // The number of entries and the length of the file.
-    Merged { count: usize, length: usize },
-    Refused(Refusal),
+    pub answer: Result<(), Refusal>,
 }
 
 #[derive(Clone, Copy)]
 pub struct MergeResult {
     pub bench: Bench,
-    pub answer: MergeAnswer,
-    // What a refusal for conflict names of parties 1 to 8, in their order.
-    pub named: [Named; 8],
-}
-
-// The answer for what was written, or why it was not.
-fn answer_of(m: Merged) -> MergeAnswer
-    ensures { Answers m result }
-{
-    match m {
-        Merged::Done { count, length } => MergeAnswer::Merged { count, length },
-        Merged::Refused(r) => MergeAnswer::Refused(r),
-    }
+    // The number of entries and the length of the file.
+    pub answer: Result<Merged, Refusal>,
+    // The entry of each party's list in force, parties 1 to 8 in their order, that catches the header of a conflict. Nothing where the party has no list in force, and
+    // where there is no conflict.
+    pub named: [Option<usize>; 8],
 }
 
 // The bench as it was, the answer, and what a conflict names.
-fn result_of(bench: Bench, m: Merged) -> MergeResult
+fn result_of(bench: Bench, m: Result<Merged, Refusal>) -> MergeResult
     ensures { ResultOf bench m result }
 {
     match conflict_in(m) {
-        Found::At(h) => {
+        Some(h) => {
             let slots = bench.slots;
             MergeResult {
                 bench,
-                answer: answer_of(m),
+                answer: m,
                 named: name_catchers(slots, h),
             }
         }
-        Found::Nothing => MergeResult {
+        None => MergeResult {
             bench,
-            answer: answer_of(m),
+            answer: m,
             named: none_named(),
         },
     }
@@ -101,7 +72,7 @@ fn refusal_of(bench: Bench, r: Refusal) -> MergeResult
 {
     MergeResult {
         bench,
-        answer: MergeAnswer::Refused(r),
+        answer: Err(r),
         named: none_named(),
     }
 }
@@ -118,34 +89,33 @@ impl Bench {
 
     // Files a list for a party, over the one that it has.
     pub fn file(mut self, party: u8, bytes: &[u8]) -> FileResult
-        ensures answers { ◌≡◌ {A = Result} (filed result.answer, result.bench, []) (result_of self (filing party bytes.now)) }
+        ensures answers { ◌≡◌ {A = CallResult} (filed result.answer, result.bench, []) (result_of self (filing party bytes.now)) }
         ensures traced { (cs : List Call) → bench_after cs ≡ self → bench_after (cs ++ (filing party bytes.now ∷ [])) ≡ result.bench }
     {
         if party < 1 {
             return FileResult {
                 bench: self,
-                answer: FileAnswer::Refused(Refusal::Party),
+                answer: Err(Refusal::Party),
             };
         }
         if 8 < party {
             return FileResult {
                 bench: self,
-                answer: FileAnswer::Refused(Refusal::Party),
+                answer: Err(Refusal::Party),
             };
         }
-        let checked = check_list(bytes);
-        match checked {
-            Checked::Refused(r) => FileResult {
+        match check_list(bytes) {
+            Err(r) => FileResult {
                 bench: self,
-                answer: FileAnswer::Refused(r),
+                answer: Err(r),
             },
-            Checked::Good(n) => {
+            Ok(n) => {
                 let at = (party - 1) as usize;
                 let slot = slot_with(bytes);
                 self.slots[at] = slot;
                 FileResult {
                     bench: self,
-                    answer: FileAnswer::Filed(n),
+                    answer: Ok(n),
                 }
             }
         }
@@ -153,19 +123,19 @@ impl Bench {
 
     // Ends a party's list.
     pub fn withdraw(mut self, party: u8) -> WithdrawResult
-        ensures answers { ◌≡◌ {A = Result} (withdrew result.answer, result.bench, []) (result_of self (withdrawal party)) }
+        ensures answers { ◌≡◌ {A = CallResult} (withdrew result.answer, result.bench, []) (result_of self (withdrawal party)) }
         ensures traced { (cs : List Call) → bench_after cs ≡ self → bench_after (cs ++ (withdrawal party ∷ [])) ≡ result.bench }
     {
         if party < 1 {
             return WithdrawResult {
                 bench: self,
-                answer: WithdrawAnswer::Refused(Refusal::Party),
+                answer: Err(Refusal::Party),
             };
         }
         if 8 < party {
             return WithdrawResult {
                 bench: self,
-                answer: WithdrawAnswer::Refused(Refusal::Party),
+                answer: Err(Refusal::Party),
             };
         }
         let at = (party - 1) as usize;
@@ -173,20 +143,20 @@ impl Bench {
         if old.length == 0 {
             return WithdrawResult {
                 bench: self,
-                answer: WithdrawAnswer::Refused(Refusal::Vacant),
+                answer: Err(Refusal::Vacant),
             };
         }
         let slot = vacant_slot();
         self.slots[at] = slot;
         WithdrawResult {
             bench: self,
-            answer: WithdrawAnswer::Withdrawn,
+            answer: Ok(()),
         }
     }
 
     // Merges the lists in force into a lent buffer.
     pub fn merge(self, out: &mut [u8]) -> MergeResult
-        ensures answers { ◌≡◌ {A = Result} (merged_as result.answer result.named, result.bench, out.new) (result_of self (merging out.old)) }
+        ensures answers { ◌≡◌ {A = CallResult} (merged_as result.answer result.named, result.bench, out.new) (result_of self (merging out.old)) }
         ensures traced { (cs : List Call) → bench_after cs ≡ self
             → (bench_after (cs ++ (merging out.old ∷ [])) ≡ result.bench)
             × Demand3 (book_after cs) out.old (merged_as result.answer result.named) out.new }
@@ -200,7 +170,7 @@ impl Bench {
 
     // Installs the lists in force into a lent buffer: merges them, leaves each entry the action of its set that stands first in a ranking, and strikes again.
     pub fn install(self, ranking: &[u8], out: &mut [u8]) -> MergeResult
-        ensures answers { ◌≡◌ {A = Result} (merged_as result.answer result.named, result.bench, out.new) (result_of self (installing ranking.now out.old)) }
+        ensures answers { ◌≡◌ {A = CallResult} (merged_as result.answer result.named, result.bench, out.new) (result_of self (installing ranking.now out.old)) }
         ensures traced { (cs : List Call) → bench_after cs ≡ self
             → (bench_after (cs ++ (installing ranking.now out.old ∷ [])) ≡ result.bench)
             × Installing ranking.now (book_after cs) out.old (merged_as result.answer result.named) out.new }
@@ -211,13 +181,14 @@ impl Bench {
         let mut rows = [0u32; ROWS];
         let slots = self.slots;
         let stage = add_slots(slots, &mut rows);
+        let ranking = Ranking { numbers: ranking };
         let installed = end_installing(stage, &mut rows, ranking, out);
         result_of(self, installed)
     }
 
     // Tries a filing: files on a copy of the bench and merges the copy. The bench itself stays as it is.
     pub fn trial(self, party: u8, bytes: &[u8], out: &mut [u8]) -> MergeResult
-        ensures answers { ◌≡◌ {A = Result} (merged_as result.answer result.named, result.bench, out.new) (result_of self (trying party bytes.now out.old)) }
+        ensures answers { ◌≡◌ {A = CallResult} (merged_as result.answer result.named, result.bench, out.new) (result_of self (trying party bytes.now out.old)) }
         ensures traced { (cs : List Call) → bench_after cs ≡ self
             → (bench_after (cs ++ (trying party bytes.now out.old ∷ [])) ≡ result.bench)
             × Trying party bytes.now (book_after cs) out.old (merged_as result.answer result.named) out.new }
@@ -225,8 +196,8 @@ impl Bench {
         let filed = self.file(party, bytes);
         let answer = filed.answer;
         match answer {
-            FileAnswer::Refused(r) => refusal_of(self, r),
-            FileAnswer::Filed(_) => {
+            Err(r) => refusal_of(self, r),
+            Ok(_) => {
                 let copy = filed.bench;
                 let mut tried = copy.merge(out);
                 tried.bench = self;

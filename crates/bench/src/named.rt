@@ -9,36 +9,26 @@ ghost use Rattle.bench.specs.steps.Naming.{catcher_in, ConflictIn};
 
 use crate::slots::{Slot, file_end, is_vacant};
 use lookup::records::first_match;
-use policy::entry::Caught;
-use policy::header::{Found, Header};
+use policy::header::Header;
 use policy::refusal::Refusal;
 use reconcile::cross::filed_count;
 use reconcile::ending::Merged;
 
-// The entry of a party's list in force that catches the header of a conflict. Uncaught where the party has no list in force, and where there is no conflict.
-#[derive(Clone, Copy)]
-pub struct Named {
-    pub entry: Caught,
-}
-
 // The header of a conflict.
-pub(crate) fn conflict_in(m: Merged) -> Found
+pub(crate) fn conflict_in(m: Result<Merged, Refusal>) -> Option<Header>
     ensures { ConflictIn m result }
 {
     match m {
-        Merged::Done {
-            count: _,
-            length: _,
-        } => Found::Nothing,
-        Merged::Refused(r) => match r {
-            Refusal::Conflict(h) => Found::At(h),
-            _ => Found::Nothing,
+        Ok(_) => None,
+        Err(r) => match r {
+            Refusal::Conflict(h) => Some(h),
+            _ => None,
         },
     }
 }
 
 // The entry of a filed list that catches h.
-fn catcher_in_file(file: &[u8], h: Header) -> Caught
+fn catcher_in_file(file: &[u8], h: Header) -> Option<usize>
     requires { head_size ≤ length file.now }
     ensures { result ≡ catcher (filed_in file.now) h }
 {
@@ -46,39 +36,31 @@ fn catcher_in_file(file: &[u8], h: Header) -> Caught
 }
 
 // The same of a slot, if it has a list. For every value of a slot: no more than its bytes are read.
-fn catcher_in(slot: Slot, h: Header) -> Caught
+fn catcher_in(slot: Slot, h: Header) -> Option<usize>
     ensures { result ≡ catcher_in h (list_in_slot slot) }
 {
     if is_vacant(slot) {
-        return Caught::Uncaught;
+        return None;
     }
     let end = file_end(slot.length);
     let bytes = slot.bytes;
-    catcher_in_file(&bytes[0..end], h)
+    catcher_in_file(&bytes[..end], h)
 }
 
 // Nothing is named.
-pub fn none_named() -> [Named; 8]
+pub fn none_named() -> [Option<usize>; 8]
     ensures { (length result ≡ 8) × (named_from 1 result ≡ []) }
 {
-    let none = Named {
-        entry: Caught::Uncaught,
-    };
-    [none; 8]
+    [None; 8]
 }
 
 // For each party in force the entry of its list, as it was filed, that catches h. A refused merging alone asks for them.
-pub(crate) fn name_catchers(slots: [Slot; 8], h: Header) -> [Named; 8]
+pub(crate) fn name_catchers(slots: [Slot; 8], h: Header) -> [Option<usize>; 8]
     ensures { named_from 1 result ≡ catchers_from 1 (map list_in_slot slots) h }
 {
     let mut named = none_named();
-    let mut i: usize = 0;
-    while i < 8 {
-        let slot = slots[i];
-        let entry = catcher_in(slot, h);
-        let n = Named { entry };
-        named[i] = n;
-        i += 1;
+    for (i, slot) in slots.iter().enumerate() {
+        named[i] = catcher_in(*slot, h);
     }
     named
 }

@@ -6,35 +6,23 @@ ghost use Rattle.wire.specs.Lists.{reading};
 ghost use Rattle.wire.specs.Writing.{writing};
 ghost use Rattle.bench.specs.Demand2.{rewriting_of, rereading_of};
 
-use wire::check::Checked;
-use wire::list::{Entries, no_entries};
-use wire::read::{Reading, read_list};
-use wire::write::{Written, write_list};
+use policy::refusal::Refusal;
+use wire::list::Entries;
+use wire::read::read_list;
+use wire::write::write_list;
 
 // Reads a file as a list, and writes the list to the start of a buffer: the same file.
-pub fn rewrite_file(file: &[u8], buffer: &mut [u8]) -> Written
+pub fn rewrite_file(file: &[u8], buffer: &mut [u8]) -> Result<usize, Refusal>
     ensures { writing result buffer.new ≡ rewriting_of file.now buffer.old }
 {
-    let read = read_list(file);
-    let answer = read.answer;
-    match answer {
-        Checked::Refused(r) => Written::Refused(r),
-        Checked::Good(_) => {
-            let list = read.list;
-            write_list(list, buffer)
-        }
-    }
+    let list = read_list(file)?;
+    write_list(list, buffer)
 }
 
 // Writes a list as a file to the start of a buffer, and reads the file: the same list.
-pub fn reread_list(list: Entries, buffer: &mut [u8]) -> Reading
+pub fn reread_list(list: Entries, buffer: &mut [u8]) -> Result<Entries, Refusal>
     ensures { ◌≡◌ {A = (Answer × Entries) × List ℕ} (reading result, buffer.new) (rereading_of list buffer.old) }
 {
-    match write_list(list, buffer) {
-        Written::Refused(r) => Reading {
-            list: no_entries(),
-            answer: Checked::Refused(r),
-        },
-        Written::Done(n) => read_list(&buffer[0..n]),
-    }
+    let n = write_list(list, buffer)?;
+    read_list(&buffer[..n])
 }

@@ -1,20 +1,21 @@
 // The slot of a party: the file that it filed; and the working list of all slots.
-ghost use Rattle.std.specs.Prelude.{◌≡◌, map, ◌≤◌, min, max, eqb, length};
+ghost use Rattle.std.specs.Prelude.{◌≡◌, map, ◌≤◌, min, max, eqb, length, IfSome, Some};
 ghost use Rattle.policy.specs.Header.{headers};
 ghost use Rattle.wire.specs.Format.{head_size, list_limit};
-ghost use Rattle.reconcile.specs.steps.Stage.{stage_in, added};
+ghost use Rattle.reconcile.specs.steps.Stage.{working_held, stage_in, crowded_in, added};
 ghost use Rattle.bench.specs.Held.{slot_size, vacant_slot, slot_with, slot_list, list_in_slot};
 ghost use Rattle.bench.specs.steps.Staged.{Staged};
 ghost use Rattle.wire.specs.steps.Fits.{AllFit};
 
-use reconcile::stage::{ROWS, Stage, add_list, no_list};
+use reconcile::stage::{ROWS, Stage, add_list};
 use wire::format::{FILED_SIZE, HEAD_SIZE, LIST_LIMIT};
-use wire::put::put_bytes;
+use wire::put::paste;
 
 // As many bytes as the longest filed list has.
 pub const SLOT_SIZE: usize = FILED_SIZE;
 
-// The bytes of a party's filed list, as many as length says; 0 where the party has none.
+// The bytes of a party's filed list, as many as length says; 0 where the party has none. An array and a length, since memory is fixed, and no Option, since `list_in_slot`
+// (specs/Held.antt) has a list for every length.
 #[derive(Clone, Copy)]
 pub struct Slot {
     pub bytes: [u8; SLOT_SIZE],
@@ -37,7 +38,7 @@ pub(crate) fn slot_with(file: &[u8]) -> Slot
     ensures { result ≡ slot_with file.now }
 {
     let mut bytes = [0u8; SLOT_SIZE];
-    put_bytes(&mut bytes, 0, file);
+    paste(&mut bytes, 0, file);
     Slot {
         bytes,
         length: file.len(),
@@ -55,42 +56,43 @@ pub(crate) fn is_vacant(slot: Slot) -> bool
 pub(crate) fn file_end(length: usize) -> usize
     ensures { result ≡ max head_size (min length slot_size) }
 {
-    if length < HEAD_SIZE {
-        return HEAD_SIZE;
-    }
-    if length < SLOT_SIZE {
-        return length;
-    }
-    SLOT_SIZE
+    length.min(SLOT_SIZE).max(HEAD_SIZE)
 }
 
 // Rules 1 and 2 for the list of a slot, where the working list is not crowded. For every value of a slot: no more than its bytes are read.
-fn add_slot(s: Stage, rows: &mut [u32; ROWS], slot: Slot) -> Stage
-    requires { s.count ≤ list_limit }
-    ensures { stage_in result ≡ added headers (stage_in s) (slot_list slot) }
+fn add_slot(s: &Option<Stage>, rows: &mut [u32; ROWS], slot: Slot) -> Stage
+    requires { IfSome s.now (λ t. t.count ≤ list_limit) }
+    ensures { Some (working_held result) ≡ added headers (stage_in s.now) (slot_list slot) }
 {
     let end = file_end(slot.length);
     let bytes = slot.bytes;
-    add_list(s, rows, &bytes[0..end])
+    add_list(s, rows, &bytes[..end])
 }
 
-// Rules 1 and 2 for the lists of all slots. The rows that are lent may hold anything. A crowded list stays so: it is asked here, since a list that is handed on only to
-// be handed back is copied in each turn.
-pub(crate) fn add_slots(slots: [Slot; 8], rows: &mut [u32; ROWS]) -> Stage
+// Whether the working list is crowded: it stays so, whatever list comes next.
+fn is_crowded(s: &Option<Stage>) -> bool
+    ensures { result ≡ crowded_in s.now }
+{
+    match s {
+        Some(stage) => LIST_LIMIT < stage.count,
+        None => false,
+    }
+}
+
+// Rules 1 and 2 for the lists of all slots; nothing where none has a list. The rows that are lent may hold anything. A crowded list stays so: it is asked here, since a
+// list that is handed on only to be handed back is copied in each turn.
+pub(crate) fn add_slots(slots: [Slot; 8], rows: &mut [u32; ROWS]) -> Option<Stage>
     ensures { Staged (map list_in_slot slots) (stage_in result) }
 {
-    let mut stage = no_list();
-    let mut i: usize = 0;
-    while i < 8 {
-        let slot = slots[i];
-        i += 1;
+    let mut stage = None;
+    for slot in slots {
         if is_vacant(slot) {
             continue;
         }
-        if LIST_LIMIT < stage.count {
+        if is_crowded(&stage) {
             continue;
         }
-        stage = add_slot(stage, rows, slot);
+        stage = Some(add_slot(&stage, rows, slot));
     }
     stage
 }

@@ -1,5 +1,6 @@
 -- What the loop over the first list's rows finds: an entry's part of it by first match in the second list, and then the rest.
 -- Assumes nothing.
+use Rattle.std.specs.Prelude.{None, Option}
 use Prim.Native.Nat.{ℕ, ◌+◌, ◌*◌, ◌-◌, ◌/◌, ◌<◌, ◌≤◌}
 use native.Mathlib.Omega.{arith}
 use native.Mathlib.Numerals.{add-one}
@@ -9,8 +10,6 @@ use mathlib.Core.List.{List, [], ◌∷◌, ◌++◌}
 use lib.ListN.{length, get_or, take, drop, drop_of_length-le}
 use lib.Seq.{take-suc, take_at, drop-cons}
 use Rattle.policy.specs.declared.header.Header.{Header}
-use Rattle.policy.specs.declared.header.Found.{Found}
-use Rattle.policy.specs.declared.header.Found.TheVariants.{Nothing}
 use Rattle.policy.specs.declared.entry.Entry.{Entry}
 use Rattle.policy.specs.Box.{meet}
 use Rattle.policy.specs.Header.{arity, fields, Box, lies, everything, Headers, headers}
@@ -52,37 +51,37 @@ covered hs p front b q c =
 
 module _ (s t : List ℕ) where
   -- what is left to be found behind the first i rows of the first list
-  abbrev rest : ℕ → Found
+  abbrev rest : ℕ → Option Header
   rest i = least_in headers everything (λ h. missed (take i (rows_in s)) h && exceeds (drop i (rows_in s)) (rows_in t) h)
 
   -- with that, what was found so far is the answer
-  abbrev pub FoundUpTo : Found → ℕ → Type 0
+  abbrev pub FoundUpTo : Option Header → ℕ → Type 0
   FoundUpTo found i =
       excess_of (rows_in s) (rows_in t) ≡ lesser (least_in headers everything (λ h. missed (take i (rows_in s)) h && exceeds (drop i (rows_in s)) (rows_in t) h)) found
 
-  pub found_none : FoundUpTo Nothing 0
+  pub found_none : FoundUpTo None 0
   found_none = sym (lesser_last (rest 0) ∙ least_everywhere headers (exceeds (rows_in s) (rows_in t)))
 
-  pub found_next : (found r : Found) (i set : ℕ) (b : Box) → i < length s / row_size → FoundUpTo found i
+  pub found_next : (found r : Option Header) (i set : ℕ) (b : Box) → i < length s / row_size → FoundUpTo found i
       → b ≡ box_of s (row_size * i) → set ≡ (row_at s (row_size * i)).actions
       → Covering headers (rows_in t)
       → r ≡ lesser (least_in headers b (λ h. missed (rows_in (take (row_size * i - 0) s)) h && judged (Lacking set) false (allowed (rows_in t) h))) found
       → FoundUpTo r (i + 1)
   found_next found r i set b l e u v k f =
       e
-      ∙ ap (λ (c : Found). lesser c found)
+      ∙ ap (λ (c : Option Header). lesser c found)
       (ap (λ (p : List Entry). least_in headers everything (λ h. missed (take i (rows_in s)) h && exceeds p (rows_in t) h)) suffix
       ∙ exceeds_step headers everything (take i (rows_in s)) x (drop (i + 1) (rows_in s)) (rows_in t)
       ∙ ap₂ lesser (everywhere headers (selector x) (λ h. missed (take i (rows_in s)) h && judged (Lacking x.actions) true (allowed (rows_in t) h)))
       (ap (λ (p : List Entry). least_in headers everything (λ h. missed p h && exceeds (drop (i + 1) (rows_in s)) (rows_in t) h)) (sym prefix))
       ∙ lesser_comm own (rest (i + 1)))
       ∙ lesser_assoc (rest (i + 1)) own found
-      ∙ ap (lesser (rest (i + 1))) (sym (f ∙ ap (λ (c : Found). lesser c found) same))
+      ∙ ap (lesser (rest (i + 1))) (sym (f ∙ ap (λ (c : Option Header). lesser c found) same))
     where
       x : Entry
       x = row_at s (row_size * i)
 
-      own : Found
+      own : Option Header
       own = least_in headers (selector x) (λ h. missed (take i (rows_in s)) h && judged (Lacking x.actions) true (allowed (rows_in t) h))
 
       short : i < length (rows_in s)
@@ -119,9 +118,9 @@ module _ (s t : List ℕ) where
       same = covered headers (rows_in t) (rows_in (take (row_size * i - 0) s)) b (Lacking set) k ∙ ap₂ (λ (b : Box) (P : Header → Bool). least_in headers b P) u
           (fun_ext λ h. ap₂ (λ (p : List Entry) (n : ℕ). missed p h && judged (Lacking n) true (allowed (rows_in t) h)) (firsts_in s i (row_size * i - 0) (small (length s / row_size) l) (no_start (row_size * i)) ∙ first) v)
 
-  pub found_all : (found : Found) (i : ℕ) → length s / row_size ≤ i → FoundUpTo found i → found ≡ excess_of (rows_in s) (rows_in t)
+  pub found_all : (found : Option Header) (i : ℕ) → length s / row_size ≤ i → FoundUpTo found i → found ≡ excess_of (rows_in s) (rows_in t)
   found_all found i l e =
-      sym (e ∙ ap (λ (c : Found). lesser c found)
+      sym (e ∙ ap (λ (c : Option Header). lesser c found)
       (ap (λ (p : List Entry). least_in headers everything (λ h. missed (take i (rows_in s)) h && exceeds p (rows_in t) h)) (drop_of_length-le (rows_in s) (long (length s / row_size) (length (rows_in s)) (length_rows s 0 (length s / row_size)) l))
       ∙ exceeds_end headers everything (take i (rows_in s)) (rows_in t)))
     where

@@ -5,20 +5,18 @@ ghost use Rattle.policy.specs.Policy.{Covering};
 ghost use Rattle.policy.specs.steps.Rows.{rows_in};
 ghost use Rattle.compare.specs.Comparison.{excess_of};
 
-use policy::header::Found;
+use policy::header::Header;
 use policy::sides::{ROW, actions_at, row_sides};
 use region::treated::{Sets, least_treated_behind};
 
 // The least header that the first list allows an action that the second does not. What an entry of the first catches is missed by those
 // before it, and is allowed too much where the second, which is covering, allows it a set that lacks an action of the entry.
-pub(crate) fn least_excess(first: &[u32], second: &[u32]) -> Found
+pub(crate) fn least_excess(first: &[u32], second: &[u32]) -> Option<Header>
     requires { Covering headers (rows_in second.now) }
     ensures { result ≡ excess_of (rows_in first.now) (rows_in second.now) }
 {
-    let n = first.len() / ROW;
-    let mut found = Found::Nothing;
-    let mut i: usize = 0;
-    while i < n {
+    let mut found = None;
+    for i in 0..first.len() / ROW {
         let at = ROW * i;
         let own = row_sides(first, at);
         found = least_treated_behind(
@@ -29,7 +27,6 @@ pub(crate) fn least_excess(first: &[u32], second: &[u32]) -> Found
             false,
             found,
         );
-        i += 1;
     }
     found
 }

@@ -1,13 +1,15 @@
 // Demand 2's round trips, a short list of calls and installs, on small files of both versions. A line has what was answered, and whether the bytes are the file's own.
 #![tactic(auto)]
 
-use bench::calls::{Bench, MergeAnswer};
+use bench::calls::Bench;
 use bench::round_trips::{reread_list, rewrite_file};
 use bench::sequence::file_twice_and_merge;
+use policy::refusal::Refusal;
+use reconcile::ending::Merged;
 use std::io;
-use wire::check::Checked;
+use wire::list::Entries;
 use wire::read::read_list;
-use wire::write::{Written, write_list};
+use wire::write::write_list;
 
 // ALL {discard, bypass}.
 const EVERYTHING: [u8; 33] = [
@@ -29,80 +31,62 @@ const WEB_FIRST_2: [u8; 65] = [
     255, 0, 0, 255, 255, 0, 0, 255, 255, 0, 255, 0, 1, 0, 1,
 ];
 
-fn print(rt: &impl Print, text: &[u8]) -> io::Result<()> {
-    rt.write_all(text)
-}
-
-fn print_number(rt: &impl Print, n: usize) -> io::Result<()> {
-    print!(rt; " {n}")
-}
-
-// Ends a line: whether the bytes are those of a file.
-fn print_same(rt: &impl Print, bytes: &[u8], file: &[u8]) -> io::Result<()> {
-    if bytes == file {
-        print(rt, b" same\n")
+// Ends a line: whether the bytes are the file's own.
+fn print_same(rt: &impl Print, same: bool) -> io::Result<()> {
+    if same {
+        println!(rt; " same")
     } else {
-        print(rt, b" other\n")
+        println!(rt; " other")
     }
 }
 
 // A file is written again in its version.
 fn rewrite(rt: &impl Print, file: &[u8]) -> io::Result<()> {
-    let mut buffer = [7u8; 65];
-    print(rt, b"rewritten")?;
+    let mut buffer = [7; 65];
+    print!(rt; "rewritten")?;
     match rewrite_file(file, &mut buffer) {
-        Written::Done(n) => print_number(rt, n)?,
-        Written::Refused(_) => print(rt, b" refused")?,
+        Ok(n) => print!(rt; " {n}")?,
+        Err(_) => print!(rt; " refused")?,
     }
-    if file.len() <= 65 {
-        print_same(rt, &buffer[0..file.len()], file)?;
-    }
-    Ok(())
+    print_same(rt, buffer.starts_with(file))
 }
 
 // The list that is read again is written once more, to be seen.
 fn reread(rt: &impl Print, file: &[u8]) -> io::Result<()> {
-    let mut buffer = [7u8; 65];
-    let first = read_list(file);
-    let list = first.list;
-    let second = reread_list(list, &mut buffer);
-    let answer = second.answer;
-    print(rt, b"read again")?;
-    match answer {
-        Checked::Good(n) => print_number(rt, n)?,
-        Checked::Refused(_) => print(rt, b" refused")?,
+    let mut buffer = [7; 65];
+    let mut out = [7; 65];
+    print!(rt; "read again")?;
+    match read_again(file, &mut buffer) {
+        Ok(again) => {
+            print!(rt; " {}", again.count)?;
+            let _ = write_list(again, &mut out);
+        }
+        Err(_) => print!(rt; " refused")?,
     }
-    let mut out = [7u8; 65];
-    let again = second.list;
-    write_list(again, &mut out);
-    if file.len() <= 65 {
-        print_same(rt, &out[0..file.len()], file)?;
-    }
-    Ok(())
+    print_same(rt, out.starts_with(file))
+}
+
+// A file's list, written and read again.
+fn read_again(file: &[u8], buffer: &mut [u8]) -> Result<Entries, Refusal> {
+    let list = read_list(file)?;
+    reread_list(list, buffer)
 }
 
 // How many entries and bytes were written, if any.
-fn print_merge_answer(rt: &impl Print, a: MergeAnswer) -> io::Result<()> {
-    match a {
-        MergeAnswer::Merged { count, length } => {
-            print_number(rt, count)?;
-            print_number(rt, length)
-        }
-        MergeAnswer::Refused(_) => print(rt, b" refused"),
+fn print_merge_answer(rt: &impl Print, answer: Result<Merged, Refusal>) -> io::Result<()> {
+    match answer {
+        Ok(merged) => print!(rt; " {} {}", merged.count, merged.length),
+        Err(_) => print!(rt; " refused"),
     }
 }
 
 // Party 1's list is withdrawn, so party 2's is merged alone; none of its entries can be struck. The file is of version 2.
 fn merge(rt: &impl Print) -> io::Result<()> {
-    let first = EVERYTHING;
-    let second = WEB_FIRST;
-    let mut out = [7u8; 65];
-    let merged = WEB_FIRST_2;
-    let m = file_twice_and_merge(&first, &second, &mut out);
-    let answer = m.answer;
-    print(rt, b"merged")?;
-    print_merge_answer(rt, answer)?;
-    print_same(rt, &out, &merged)
+    let mut out = [7; 65];
+    let m = file_twice_and_merge(&EVERYTHING, &WEB_FIRST, &mut out);
+    print!(rt; "merged")?;
+    print_merge_answer(rt, m.answer)?;
+    print_same(rt, out == WEB_FIRST_2)
 }
 
 // The list of one party allows bypass for local port 80 with protocol 6, and for all else both discard and bypass. Where discard is best, the second file is
@@ -111,25 +95,19 @@ fn install(rt: &impl Print, best: u8, next: u8) -> io::Result<()> {
     let mut file = WEB_FIRST;
     file[60] = 3;
     let ranking = [best, next, 2, 3, 4, 5, 6, 7, 8, 9, 10, 11, 12, 13, 14, 15];
-    let mut out = [7u8; 65];
-    let installed = WEB_FIRST_2;
-    let b0 = Bench::open();
-    let f = b0.file(1, &file);
-    let b1 = f.bench;
-    let m = b1.install(&ranking, &mut out);
-    let answer = m.answer;
-    print(rt, b"installed")?;
-    print_merge_answer(rt, answer)?;
-    print_same(rt, &out, &installed)
+    let mut out = [7; 65];
+    let bench = Bench::open().file(1, &file).bench;
+    let m = bench.install(&ranking, &mut out);
+    print!(rt; "installed")?;
+    print_merge_answer(rt, m.answer)?;
+    print_same(rt, out == WEB_FIRST_2)
 }
 
 fn main(rt: HostRuntime) -> io::Result<()> {
-    let one = WEB_FIRST;
-    let two = WEB_FIRST_2;
-    rewrite(&rt, &one)?;
-    rewrite(&rt, &two)?;
-    reread(&rt, &one)?;
-    reread(&rt, &two)?;
+    rewrite(&rt, &WEB_FIRST)?;
+    rewrite(&rt, &WEB_FIRST_2)?;
+    reread(&rt, &WEB_FIRST)?;
+    reread(&rt, &WEB_FIRST_2)?;
     merge(&rt)?;
     install(&rt, 0, 1)?;
     install(&rt, 1, 0)?;

@@ -1,10 +1,8 @@
 -- 01, "Examples": those marked P, as theorems about the meanings. P3, P4 and P6 to P11 are computed by the models and carried over.
 -- Assumes nothing.
-use Rattle.std.specs.Prelude.{ℕ, ◌+◌, ◌≡◌, refl, true, false, List, [], ◌∷◌}
+use Rattle.std.specs.Prelude.{ℕ, ◌+◌, ◌≡◌, refl, true, false, List, [], ◌∷◌, None, Some}
 use Rattle.policy.specs.declared.header.Header.{Header}
-use Rattle.policy.specs.declared.header.Found.TheVariants.{At, Nothing}
 use Rattle.policy.specs.declared.entry.Entry.{Entry}
-use Rattle.policy.specs.declared.entry.Caught.TheVariants.{By}
 use Rattle.policy.specs.declared.refusal.Refusal.TheVariants.{Conflict}
 use Rattle.policy.specs.Box.{Range, range}
 use Rattle.policy.specs.Header.{header, everything, headers}
@@ -53,7 +51,7 @@ protocols n s = selecting any_address any_port n s
 -- ---- first match
 
 -- P1. List ALL {discard, bypass}: 0,0,0,0,0 is caught by entry 0.
-pub p1 : header_catcher (all (discard + bypass) ∷ []) (at 0 0 0 0 0) ≡ By 0
+pub p1 : header_catcher (all (discard + bypass) ∷ []) (at 0 0 0 0 0) ≡ Some 0
 unfolding headers
 p1 = refl
 
@@ -61,27 +59,27 @@ p1 = refl
 abbrev web_first : List Entry
 web_first = selecting any_address (range 80 80) (range 6 6) bypass ∷ all discard ∷ []
 
-pub p2_80 : header_catcher web_first (at 0 0 80 0 6) ≡ By 0
+pub p2_80 : header_catcher web_first (at 0 0 80 0 6) ≡ Some 0
 unfolding headers
 p2_80 = refl
 
-pub p2_79 : header_catcher web_first (at 0 0 79 0 6) ≡ By 1
+pub p2_79 : header_catcher web_first (at 0 0 79 0 6) ≡ Some 1
 unfolding headers
 p2_79 = refl
 
-pub p2_81 : header_catcher web_first (at 0 0 81 0 6) ≡ By 1
+pub p2_81 : header_catcher web_first (at 0 0 81 0 6) ≡ Some 1
 unfolding headers
 p2_81 = refl
 
 -- ---- gap; whatever the action sets are
 
 -- P3. Only protocols 0 to 254: gap, 0,0,0,0,255.
-pub p3 : (a : ℕ) → least headers (missed (protocols (range 0 254) a ∷ [])) ≡ At (at 0 0 0 0 255)
+pub p3 : (a : ℕ) → least headers (missed (protocols (range 0 254) a ∷ [])) ≡ Some (at 0 0 0 0 255)
 unfolding headers
 p3 a = gap_is headers (protocols (range 0 254) a ∷ [])
 
 -- P4. Local addresses 0 to 2147483647, then 2147483648 to 4294967295: no gap.
-pub p4 : (a b : ℕ) → least headers (missed (from_local (range 0 2147483647) a ∷ from_local (range 2147483648 4294967295) b ∷ [])) ≡ Nothing
+pub p4 : (a b : ℕ) → least headers (missed (from_local (range 0 2147483647) a ∷ from_local (range 2147483648 4294967295) b ∷ [])) ≡ None
 unfolding headers
 p4 a b = gap_is headers (from_local (range 0 2147483647) a ∷ from_local (range 2147483648 4294967295) b ∷ [])
 
@@ -102,7 +100,7 @@ unfolding headers
 p6 = merge_by-is headers ((all bypass ∷ []) ∷ (all discard ∷ []) ∷ [])
 
 -- the entries that clash there (02, Wish 5), each in its list
-pub p6_entries : (catcher (all bypass ∷ []) (at 0 0 0 0 0) ≡ By 0) × (catcher (all discard ∷ []) (at 0 0 0 0 0) ≡ By 0)
+pub p6_entries : (catcher (all bypass ∷ []) (at 0 0 0 0 0) ≡ Some 0) × (catcher (all discard ∷ []) (at 0 0 0 0 0) ≡ Some 0)
 p6_entries = (refl, refl)
 
 -- policies A and B of 004's appendix: ESP transport is bit 2, the net is 10.1.*.*, and A3 allows x
@@ -129,7 +127,7 @@ unfolding headers
 p7 = merge_by-is headers (policy_a bypass ∷ policy_b ∷ [])
 
 -- A's third entry and B's second, the pair C32
-pub p7_entries : (catcher (policy_a bypass) (at 0 0 0 0 1) ≡ By 2) × (catcher policy_b (at 0 0 0 0 1) ≡ By 1)
+pub p7_entries : (catcher (policy_a bypass) (at 0 0 0 0 1) ≡ Some 2) × (catcher policy_b (at 0 0 0 0 1) ≡ Some 1)
 p7_entries = (refl, refl)
 
 -- P8. The same with A3 allowing bypass and discard: three entries, C11, C21, C42.
@@ -154,7 +152,7 @@ pub p10_before : merge_of headers ((protocols (range 1 1) 0 ∷ all discard ∷ 
 unfolding headers
 p10_before = merge_by-is headers ((protocols (range 1 1) 0 ∷ all discard ∷ []) ∷ [])
 
-pub p10_entry : catcher (protocols (range 1 1) 0 ∷ all discard ∷ []) (at 0 0 0 0 1) ≡ By 0
+pub p10_entry : catcher (protocols (range 1 1) 0 ∷ all discard ∷ []) (at 0 0 0 0 1) ≡ Some 0
 p10_entry = refl
 
 pub p10_after : merge_of headers ((all discard ∷ protocols (range 1 1) 0 ∷ []) ∷ []) ≡ merged (all discard ∷ [])

@@ -1,5 +1,6 @@
 -- The numbers and bytes that C gets for each answer.
 -- Assumes nothing.
+use Rattle.std.specs.Prelude.{Result, Ok, Err, Some, None, Option}
 use Prim.Native.Nat.{ℕ, ◌+◌, ◌*◌, ◌^◌, ◌<◌}
 use native.Mathlib.Omega.{arith}
 use mathlib.Core.Path.{◌≡◌, sym, ◌∙◌, ap}
@@ -12,25 +13,23 @@ use Rattle.policy.specs.declared.refusal.Refusal.{Refusal}
 use Rattle.policy.specs.Refusals.{refusal, numbers}
 use Rattle.policy.proofs.Refusals.{refusal_refuses}
 use Rattle.wire.specs.Format.{header_put}
-use Rattle.lookup.specs.declared.file.Looked.{Looked}
-use Rattle.lookup.specs.declared.file.Looked.TheVariants as look
 use Rattle.lookup.specs.Lookup.{looked, lookup_of}
 use Rattle.lookup.proofs.FileLookup.{entry_small}
-use Rattle.compare.specs.declared.files.Compared.{Compared}
-use Rattle.compare.specs.declared.files.Compared.TheVariants as comp
+use Rattle.compare.specs.declared.files.RefusedFile.{RefusedFile}
+use Rattle.compare.specs.declared.files.RefusedFile.TheVariants.{First, Second}
 use Rattle.compare.specs.Comparison.{ComparisonAnswer, compared, comparison_of}
 use Rattle.gateway.specs.Exports.{first_value, lookup_number, has_header, comparison_number, header_lent}
 
 -- ---- lookup
 
-module _ (s : List ℕ) (h : Header) (l : Looked) (e : looked l ≡ lookup_of s h) where
-  pub entry_number : (i : ℕ) → l ≡ look.Entry i → i ≡ lookup_number (lookup_of s h)
-  entry_number i q = ap lookup_number (ap looked (sym q) ∙ e)
+module _ (s : List ℕ) (h : Header) (l : Result (Option ℕ) Refusal) (e : looked l ≡ lookup_of s h) where
+  pub entry_number : (i : ℕ) (c : Option ℕ) → l ≡ Ok c → c ≡ Some i → i ≡ lookup_number (lookup_of s h)
+  entry_number i c a b = ap lookup_number (ap looked (sym (a ∙ ap Ok b)) ∙ e)
 
-  pub uncaught_number : l ≡ look.Uncaught → 256 ≡ lookup_number (lookup_of s h)
-  uncaught_number q = ap lookup_number (ap looked (sym q) ∙ e)
+  pub uncaught_number : (c : Option ℕ) → l ≡ Ok c → c ≡ None → 256 ≡ lookup_number (lookup_of s h)
+  uncaught_number c a b = ap lookup_number (ap looked (sym (a ∙ ap Ok b)) ∙ e)
 
-  pub refused_number : (r : Refusal) (n : ℕ) → l ≡ look.Refused r → n ≡ (refusal r).number → 256 + n ≡ lookup_number (lookup_of s h)
+  pub refused_number : (r : Refusal) (n : ℕ) → l ≡ Err r → n ≡ (refusal r).number → 256 + n ≡ lookup_number (lookup_of s h)
   refused_number r n q m =
       ap (256 +◌) m
       ∙ sym (ap (λ (b : Bool). cond b (first_value (refusal r).values 256) (256 + (refusal r).number)) (refusal_refuses r))
@@ -44,12 +43,12 @@ Exported = ℕ × List ℕ
 abbrev pub exported : ComparisonAnswer → List ℕ → Exported
 exported a buffer = (comparison_number a, header_lent a buffer)
 
-module _ (s t buffer : List ℕ) (r : Compared) (e : compared r ≡ comparison_of s t) where
-  pub says_yes : r ≡ comp.Yes → ◌≡◌ {A = Exported} (0, buffer) (exported (comparison_of s t) buffer)
-  says_yes q = ap (λ (a : ComparisonAnswer). exported a buffer) (ap compared (sym q) ∙ e)
+module _ (s t buffer : List ℕ) (r : Result (Option Header) RefusedFile) (e : compared r ≡ comparison_of s t) where
+  pub says_yes : (c : Option Header) → r ≡ Ok c → c ≡ None → ◌≡◌ {A = Exported} (0, buffer) (exported (comparison_of s t) buffer)
+  says_yes c a b = ap (λ (a : ComparisonAnswer). exported a buffer) (ap compared (sym (a ∙ ap Ok b)) ∙ e)
 
-  pub says_no : (h : Header) (after : List ℕ) → r ≡ comp.No h → after ≡ header_put (numbers h) buffer → ◌≡◌ {A = Exported} (1, after) (exported (comparison_of s t) buffer)
-  says_no h after q p = ap (λ (b : List ℕ). (1, b)) p ∙ ap (λ (a : ComparisonAnswer). exported a buffer) (ap compared (sym q) ∙ e)
+  pub says_no : (h : Header) (after : List ℕ) (c : Option Header) → r ≡ Ok c → c ≡ Some h → after ≡ header_put (numbers h) buffer → ◌≡◌ {A = Exported} (1, after) (exported (comparison_of s t) buffer)
+  says_no h after c a b p = ap (λ (b : List ℕ). (1, b)) p ∙ ap (λ (a : ComparisonAnswer). exported a buffer) (ap compared (sym (a ∙ ap Ok b)) ∙ e)
 
   refused_as : (k n : ℕ) (x : Refusal) → n ≡ (refusal x).number → record { file = k; answer = refusal x } ≡ comparison_of s t
       → ◌≡◌ {A = Exported} (k * 256 + n, buffer) (exported (comparison_of s t) buffer)
@@ -58,16 +57,16 @@ module _ (s t buffer : List ℕ) (r : Compared) (e : compared r ≡ comparison_o
       ∙ sym (ap (λ (b : Bool). (cond b (cond (has_header (refusal x).values) 1 0) (k * 256 + (refusal x).number), cond (b && has_header (refusal x).values) (header_put (refusal x).values buffer) buffer)) (refusal_refuses x))
       ∙ ap (λ (a : ComparisonAnswer). exported a buffer) q
 
-  pub refuses_first : (x : Refusal) (n : ℕ) → r ≡ comp.First x → n ≡ (refusal x).number → ◌≡◌ {A = Exported} (256 + n, buffer) (exported (comparison_of s t) buffer)
-  refuses_first x n q m = refused_as 1 n x m (ap compared (sym q) ∙ e)
+  pub refuses_first : (x : Refusal) (n : ℕ) (f : RefusedFile) → r ≡ Err f → f ≡ First x → n ≡ (refusal x).number → ◌≡◌ {A = Exported} (256 + n, buffer) (exported (comparison_of s t) buffer)
+  refuses_first x n f a b m = refused_as 1 n x m (ap compared (sym (a ∙ ap Err b)) ∙ e)
 
-  pub refuses_second : (x : Refusal) (n : ℕ) → r ≡ comp.Second x → n ≡ (refusal x).number → ◌≡◌ {A = Exported} (512 + n, buffer) (exported (comparison_of s t) buffer)
-  refuses_second x n q m = refused_as 2 n x m (ap compared (sym q) ∙ e)
+  pub refuses_second : (x : Refusal) (n : ℕ) (f : RefusedFile) → r ≡ Err f → f ≡ Second x → n ≡ (refusal x).number → ◌≡◌ {A = Exported} (512 + n, buffer) (exported (comparison_of s t) buffer)
+  refuses_second x n f a b m = refused_as 2 n x m (ap compared (sym (a ∙ ap Err b)) ∙ e)
 
 -- ---- the numbers fit 32 bits
 
-pub entry_fits : (s : List ℕ) (h : Header) (l : Looked) (i : ℕ) → looked l ≡ lookup_of s h → l ≡ look.Entry i → Fits w32 i
-entry_fits s h l i e q = record { fits = small i (entry_small s h l e i q) }
+pub entry_fits : (s : List ℕ) (h : Header) (l : Result (Option ℕ) Refusal) (i : ℕ) (c : Option ℕ) → looked l ≡ lookup_of s h → l ≡ Ok c → c ≡ Some i → Fits w32 i
+entry_fits s h l i c e a b = record { fits = small i (entry_small s h l e i c a b) }
   where
     small : (i : ℕ) → i < 256 → i < 2 ^ 32
     small i l = omega arith

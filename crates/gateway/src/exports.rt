@@ -5,10 +5,9 @@ ghost use Rattle.lookup.specs.Lookup.{lookup_of};
 ghost use Rattle.compare.specs.Comparison.{comparison_of};
 ghost use Rattle.gateway.specs.Exports.{lookup_number, comparison_number, header_lent};
 
-use compare::files::{Compared, compare_files};
-use lookup::file::{Looked, lookup_number};
+use compare::files::{RefusedFile, compare_files};
+use lookup::file::lookup_number;
 use policy::header::Header;
-use policy::refusal::number_of;
 use wire::header::put_header;
 
 // The number of the entry that catches the header, 256 if none does, or 256 plus the number of the refusal.
@@ -32,9 +31,9 @@ pub fn policy_lookup(
         direction,
     };
     match lookup_number(file, h) {
-        Looked::Entry(i) => i as u32,
-        Looked::Uncaught => 256,
-        Looked::Refused(r) => 256 + number_of(r) as u32,
+        Ok(Some(i)) => i as u32,
+        Ok(None) => 256,
+        Err(r) => 256 + u32::from(r.number()),
     }
 }
 
@@ -45,12 +44,12 @@ pub fn policy_compare(first: &[u8], second: &[u8], buffer: &mut [u8]) -> u32
         (comparison_number (comparison_of first.now second.now), header_lent (comparison_of first.now second.now) buffer.old) }
 {
     match compare_files(first, second) {
-        Compared::Yes => 0,
-        Compared::No(h) => {
+        Ok(None) => 0,
+        Ok(Some(h)) => {
             put_header(buffer, h);
             1
         }
-        Compared::First(r) => 256 + number_of(r) as u32,
-        Compared::Second(r) => 512 + number_of(r) as u32,
+        Err(RefusedFile::First(r)) => 256 + u32::from(r.number()),
+        Err(RefusedFile::Second(r)) => 512 + u32::from(r.number()),
     }
 }

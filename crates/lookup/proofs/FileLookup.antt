@@ -1,20 +1,17 @@
 -- Lookup in a file, by the answer of its checks and what first match finds; and what lookup's answer tells of the record.
 -- Assumes nothing.
+use Rattle.std.specs.Prelude.{None, Option, Some, Result, Ok, Err}
 use Prim.Native.Nat.{ℕ, suc, ◌+◌, ◌-◌, ◌<◌, ◌≤◌}
 use native.Mathlib.Nat.{add_comm, zero-add}
 use native.Mathlib.Omega.{arith}
 use mathlib.Core.Path.{◌≡◌, refl, sym, ap, ◌∙◌}
 use mathlib.Core.Bool.{Bool, true, false, cond}
 use mathlib.Core.List.{List, [], ◌∷◌}
-use mathlib.Core.Option.{Option, none, some}
 use lib.ListN.{length, get_or, take, drop, length-append}
 use lib.Seq.{get_or-take, get_or-drop}
 use denote.Ref.{Bor}
 use Rattle.policy.specs.declared.header.Header.{Header}
 use Rattle.policy.specs.declared.entry.Entry.{Entry}
-use Rattle.policy.specs.declared.entry.Caught.{Caught}
-use Rattle.policy.specs.declared.entry.Caught.TheVariants.{By}
-use Rattle.policy.specs.declared.entry.Caught.TheVariants as catch
 use Rattle.policy.specs.declared.refusal.Refusal.{Refusal}
 use Rattle.policy.specs.declared.refusal.Refusal.TheVariants.{Missized, Version, Count, Crossed}
 use Rattle.policy.specs.Header.{among, headers}
@@ -22,20 +19,16 @@ use Rattle.policy.specs.Policy.{catcher}
 use Rattle.policy.specs.Refusals.{Answer, refusal, accepted, is_accepted, refuse}
 use Rattle.policy.proofs.Refusals.{Pass, Refuse, refuse_refuses, refusal_refuses, refused_stays, accepted_passes, passes}
 use Rattle.policy.proofs.Policy.{caught_by}
-use Rattle.wire.specs.declared.check.Checked.{Checked}
-use Rattle.wire.specs.declared.check.Checked.TheVariants.{Good, Refused}
 use Rattle.wire.specs.Format.{record_size, list_limit, version_in, count_in, place_in, list_in, entry_at, entries_from}
 use Rattle.wire.specs.steps.Numbered.{record_in}
 use Rattle.wire.specs.Checks.{missized, bad_version, bad_count, first_crossed, refuse_entry, file_checks, checks_of, checked}
 use Rattle.wire.proofs.Checked.{accepted_tells, good_tells, refused_tells}
 use Rattle.wire.proofs.Entries.{same_entry, length_entries, first_at}
 use Rattle.wire.proofs.Sizes.{entry_there}
-use Rattle.lookup.specs.declared.file.Looked.{Looked}
-use Rattle.lookup.specs.declared.file.Looked.TheVariants.{Entry as Found, Uncaught, Refused as Turned}
 use Rattle.lookup.specs.Lookup.{caught_values, header_catcher, looked, lookup_of, Part, record_part, no_part, part_for, lent_part}
 
 -- an entry that catches a header has its number below the list's length
-pub caught_below : (p : List Entry) (h : Header) (i : ℕ) → catcher p h ≡ By i → i < length p
+pub caught_below : (p : List Entry) (h : Header) (i : ℕ) → catcher p h ≡ Some i → i < length p
 caught_below p h i e =
     let c = caught_by 0 p h i e in
     let w : length p ≡ length c.2.front + suc (length c.2.back) = ap length c.2.whole ∙ length-append c.2.front (c.2.entry ∷ c.2.back) in
@@ -45,34 +38,28 @@ caught_below p h i e =
     below n f b j i w p e = omega arith
 
 -- an entry that catches a combination of numbers is the catcher of Definition 3
-header_caught : (p : List Entry) (h : Header) (i : ℕ) → header_catcher p h ≡ By i → catcher p h ≡ By i
+header_caught : (p : List Entry) (h : Header) (i : ℕ) → header_catcher p h ≡ Some i → catcher p h ≡ Some i
 header_caught p h i e = go (among headers h) e
   where
-    go : (b : Bool) → cond b (catcher p h) catch.Uncaught ≡ By i → catcher p h ≡ By i
+    go : (b : Bool) → cond b (catcher p h) None ≡ Some i → catcher p h ≡ Some i
     go true e = e
     go false e = absurd (let z : ◌≡◌ {A = ℕ} 0 1 = cc in omega arith)
 
 -- ---- from the checks and first match to the answer
 
-pub good_room : (s : List ℕ) (c : Checked) (n : ℕ) → checked c ≡ checks_of s list_limit → c ≡ Good n → place_in s n ≤ length s
+pub good_room : (s : List ℕ) (c : Result ℕ Refusal) (n : ℕ) → checked c ≡ checks_of s list_limit → c ≡ Ok n → place_in s n ≤ length s
 good_room s c n e g = let z = (good_tells s list_limit c n e g).size in omega arith
 
-module _ (s : List ℕ) (h : Header) (c : Checked) (e : checked c ≡ checks_of s list_limit) where
-  pub refused_answer : (x : Refusal) → c ≡ Refused x → refusal x ≡ lookup_of s h
+module _ (s : List ℕ) (h : Header) (c : Result ℕ Refusal) (e : checked c ≡ checks_of s list_limit) where
+  pub refused_answer : (x : Refusal) → c ≡ Err x → refusal x ≡ lookup_of s h
   refused_answer x g = refused_tells s list_limit c x e g [] (accepted (caught_values (header_catcher (list_in s) h)))
 
-  module _ (n : ℕ) (g : c ≡ Good n) (k : Caught) (found : k ≡ header_catcher (entries_from s 0 n) h) where
-    good_answer : accepted (caught_values k) ≡ lookup_of s h
+  module _ (n : ℕ) (g : c ≡ Ok n) (k : Option ℕ) (found : k ≡ header_catcher (entries_from s 0 n) h) where
+    pub good_answer : accepted (caught_values k) ≡ lookup_of s h
     good_answer =
         let t = good_tells s list_limit c n e g in
-        ap (λ (x : Caught). accepted (caught_values x)) (found ∙ ap (λ (m : ℕ). header_catcher (entries_from s 0 m) h) (sym t.count_is))
+        ap (λ (x : Option ℕ). accepted (caught_values x)) (found ∙ ap (λ (m : ℕ). header_catcher (entries_from s 0 m) h) (sym t.count_is))
         ∙ sym (t.passes [] (accepted (caught_values (header_catcher (list_in s) h))))
-
-    pub caught_answer : (i : ℕ) → k ≡ By i → accepted (i ∷ []) ≡ lookup_of s h
-    caught_answer i q = ap (λ (x : Caught). accepted (caught_values x)) (sym q) ∙ good_answer
-
-    pub uncaught_answer : k ≡ catch.Uncaught → accepted [] ≡ lookup_of s h
-    uncaught_answer q = ap (λ (x : Caught). accepted (caught_values x)) (sym q) ∙ good_answer
 
 -- ---- from the answer to the record
 
@@ -85,10 +72,10 @@ file_refuses s limit =
     (refuse_refuses (bad_version s) Version count (refuse_refuses (bad_count s limit) Count crossed (crossed_refuses (first_crossed (list_in s)))))
   where
     crossed_refuses : (o : Option ℕ) → Refuse (refuse_entry Crossed o ∷ [])
-    crossed_refuses (some i) = (refl, tt)
-    crossed_refuses none = tt
+    crossed_refuses (Some i) = (refl, tt)
+    crossed_refuses None = tt
 
-module _ (s : List ℕ) (h : Header) (l : Looked) (e : looked l ≡ lookup_of s h) where
+module _ (s : List ℕ) (h : Header) (l : Result (Option ℕ) Refusal) (e : looked l ≡ lookup_of s h) where
   -- an accepted answer: the file is good, and the values are those of Definition 3
   module _ (vs : List ℕ) (a : looked l ≡ accepted vs) where
     pass : Pass (file_checks s list_limit)
@@ -103,41 +90,43 @@ module _ (s : List ℕ) (h : Header) (l : Looked) (e : looked l ≡ lookup_of s 
     part_is : part_for s h ≡ record_part s (header_catcher (list_in s) h)
     part_is = ap (λ (x : Answer). cond (is_accepted x) (record_part s (header_catcher (list_in s) h)) no_part) good
 
-  catcher_is : (i : ℕ) → l ≡ Found i → header_catcher (list_in s) h ≡ By i
+  catcher_is : (i : ℕ) → l ≡ Ok (Some i) → header_catcher (list_in s) h ≡ Some i
   catcher_is i q = go (header_catcher (list_in s) h) refl (values_are (i ∷ []) (ap looked q))
     where
-      go : (k : Caught) → header_catcher (list_in s) h ≡ k → i ∷ [] ≡ caught_values k → k ≡ By i
-      go (By j) u v = cc
-      go catch.Uncaught u v = absurd (let z : ◌≡◌ {A = ℕ} 0 1 = cc in omega arith)
+      go : (k : Option ℕ) → header_catcher (list_in s) h ≡ k → i ∷ [] ≡ caught_values k → k ≡ Some i
+      go (Some j) u v = cc
+      go None u v = absurd (let z : ◌≡◌ {A = ℕ} 0 1 = cc in omega arith)
 
   -- the record of the entry that was found lies in the file, and is the part
-  pub record_fits : (i : ℕ) → l ≡ Found i → place_in s (i + 1) ≤ length s
-  record_fits i q =
+  pub record_fits : (i : ℕ) (c : Option ℕ) → l ≡ Ok c → c ≡ Some i → place_in s (i + 1) ≤ length s
+  record_fits i c a b =
+      let q : l ≡ Ok (Some i) = a ∙ ap Ok b in
       let f = caught_below (list_in s) h i (header_caught (list_in s) h i (catcher_is i q)) in
       let n = length_entries s 0 (count_in s) in
       let z = (accepted_tells s list_limit (count_in s) (sym (good (i ∷ []) (ap looked q)))).size in
       entry_there s i (count_in s) (omega arith) z
 
   -- its number is one of a list of up to 256
-  pub entry_small : (i : ℕ) → l ≡ Found i → i < list_limit
-  entry_small i q =
+  pub entry_small : (i : ℕ) (c : Option ℕ) → l ≡ Ok c → c ≡ Some i → i < list_limit
+  entry_small i c a b =
+      let q : l ≡ Ok (Some i) = a ∙ ap Ok b in
       let f = caught_below (list_in s) h i (header_caught (list_in s) h i (catcher_is i q)) in
       let n = length_entries s 0 (count_in s) in
       let z = (accepted_tells s list_limit (count_in s) (sym (good (i ∷ []) (ap looked q)))).most_is in
       omega arith
 
-  pub record_part_lem : (i : ℕ) → l ≡ Found i → record_part s (By i) ≡ part_for s h
-  record_part_lem i q = sym (part_is (i ∷ []) (ap looked q) ∙ ap (record_part s) (catcher_is i q))
+  pub record_part_lem : (i : ℕ) (c : Option ℕ) → l ≡ Ok c → c ≡ Some i → record_part s (Some i) ≡ part_for s h
+  record_part_lem i c a b = let q : l ≡ Ok (Some i) = a ∙ ap Ok b in sym (part_is (i ∷ []) (ap looked q) ∙ ap (record_part s) (catcher_is i q))
 
   -- where nothing catches, or the file is refused, there is no part
-  pub uncaught_part : l ≡ Uncaught → no_part ≡ part_for s h
-  uncaught_part q = sym (part_is [] (ap looked q) ∙ go (header_catcher (list_in s) h) (values_are [] (ap looked q)))
+  pub uncaught_part : (c : Option ℕ) → l ≡ Ok c → c ≡ None → no_part ≡ part_for s h
+  uncaught_part c a b = let q : l ≡ Ok None = a ∙ ap Ok b in sym (part_is [] (ap looked q) ∙ go (header_catcher (list_in s) h) (values_are [] (ap looked q)))
     where
-      go : (k : Caught) → [] ≡ caught_values k → record_part s k ≡ no_part
-      go (By j) v = absurd (let z : ◌≡◌ {A = ℕ} 0 1 = cc in omega arith)
-      go catch.Uncaught v = refl
+      go : (k : Option ℕ) → [] ≡ caught_values k → record_part s k ≡ no_part
+      go (Some j) v = absurd (let z : ◌≡◌ {A = ℕ} 0 1 = cc in omega arith)
+      go None v = refl
 
-  pub refused_part : (x : Refusal) → l ≡ Turned x → no_part ≡ part_for s h
+  pub refused_part : (x : Refusal) → l ≡ Err x → no_part ≡ part_for s h
   refused_part x q =
       let r = refused_stays (file_checks s list_limit) (caught_values (header_catcher (list_in s) h)) x (accepted (count_in s ∷ [])) (ap looked (sym q) ∙ e) in
       sym (ap (λ (b : Bool). cond b (record_part s (header_catcher (list_in s) h)) no_part) (ap is_accepted (sym r) ∙ refusal_refuses x))
@@ -150,8 +139,8 @@ part_lent f a e p q = ap (λ (o : ℕ). ((f.ref_ptr.0, o), take (e - a) (drop a 
 
 -- record i
 pub record_lent : (f : Bor (List ℕ)) (i a n : ℕ) → a ≡ place_in f.now i → n ≡ record_size (version_in f.now)
-    → ◌≡◌ {A = (ℕ × ℕ) × List ℕ} ((f.ref_ptr.0, a + f.ref_ptr.1), take (a + n - a) (drop a f.now)) (lent_part f (record_part f.now (By i)))
-record_lent f i a n e g = part_lent f a (a + n) (record_part f.now (By i)) (λ j. record { start = e j; size = (whole a n ∙ g) j })
+    → ◌≡◌ {A = (ℕ × ℕ) × List ℕ} ((f.ref_ptr.0, a + f.ref_ptr.1), take (a + n - a) (drop a f.now)) (lent_part f (record_part f.now (Some i)))
+record_lent f i a n e g = part_lent f a (a + n) (record_part f.now (Some i)) (λ j. record { start = e j; size = (whole a n ∙ g) j })
   where
     whole : (a n : ℕ) → a + n - a ≡ n
     whole a n = omega arith

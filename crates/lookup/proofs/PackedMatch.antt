@@ -1,5 +1,6 @@
 -- First match among the records of a file.
 -- Assumes nothing.
+use Rattle.std.specs.Prelude.{None, Option, Some}
 use Prim.Native.Nat.{ℕ, ◌+◌, ◌<◌, ◌≤◌}
 use native.Mathlib.Omega.{arith}
 use mathlib.Core.Path.{◌≡◌, sym, ap, ◌∙◌}
@@ -10,8 +11,6 @@ use lib.ListN.{length, get_or}
 use borrow.Author.Tests.{eq-eqb, ne_eqb, le-leb}
 use Rattle.policy.specs.declared.header.Header.{Header}
 use Rattle.policy.specs.declared.entry.Entry.{Entry}
-use Rattle.policy.specs.declared.entry.Caught.{Caught}
-use Rattle.policy.specs.declared.entry.Caught.TheVariants.{By, Uncaught}
 use Rattle.policy.specs.Box.{range, within}
 use Rattle.policy.specs.Entry.{matches}
 use Rattle.policy.specs.Header.{among, headers}
@@ -52,21 +51,21 @@ module _ (s : List ℕ) (n : ℕ) (h : Header) (i : ℕ) (l : i < n) (passed : P
   inside : i < length (entries_from s 0 n)
   inside = let k : length (entries_from s 0 n) ≡ n = length_entries s 0 n in omega arith
 
-  pub matched : r ≡ true → By i ≡ catcher (entries_from s 0 n) h
+  pub matched : r ≡ true → Some i ≡ catcher (entries_from s 0 n) h
   matched m = match.matched (entries_from s 0 n) h i entry entry inside (first_at s n i entry l) passed (sym tested ∙ m)
 
   pub unmatched : r ≡ false → Passed s n h (i + 1)
   unmatched m = match.unmatched (entries_from s 0 n) h i entry entry inside (first_at s n i entry l) passed (sym tested ∙ m)
 
 -- no record is left
-pub ended : (s : List ℕ) (n : ℕ) (h : Header) (i : ℕ) → n ≤ i → Passed s n h i → Uncaught ≡ catcher (entries_from s 0 n) h
+pub ended : (s : List ℕ) (n : ℕ) (h : Header) (i : ℕ) → n ≤ i → Passed s n h i → None ≡ catcher (entries_from s 0 n) h
 ended s n h i l passed = match.ended (entries_from s 0 n) h i (let k : length (entries_from s 0 n) ≡ n = length_entries s 0 n in omega arith) passed
 
 -- ---- where h may be no header
 
 module _ (p : List Entry) (h : Header) (t : Bool) (e : t ≡ among headers h) where
-  pub no_header : not t ≡ true → Uncaught ≡ header_catcher p h
-  no_header n = sym (ap (λ (b : Bool). cond b (catcher p h) Uncaught) (sym e ∙ not_true n))
+  pub no_header : not t ≡ true → None ≡ header_catcher p h
+  no_header n = sym (ap (λ (b : Bool). cond b (catcher p h) None) (sym e ∙ not_true n))
 
-  pub by_first_match : (r : Caught) → not t ≡ false → r ≡ catcher p h → r ≡ header_catcher p h
-  by_first_match r n f = f ∙ sym (ap (λ (b : Bool). cond b (catcher p h) Uncaught) (sym e ∙ not_false n))
+  pub by_first_match : (r : Option ℕ) → not t ≡ false → r ≡ catcher p h → r ≡ header_catcher p h
+  by_first_match r n f = f ∙ sym (ap (λ (b : Bool). cond b (catcher p h) None) (sym e ∙ not_false n))

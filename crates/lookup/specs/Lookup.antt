@@ -1,11 +1,9 @@
 -- Lookup in a file and in a table (01, "Lookup and comparison").
-use Rattle.std.specs.Prelude.{ℕ, ◌+◌, cond, List, [], ◌∷◌, map, take, drop}
+use Rattle.policy.specs.declared.refusal.Refusal.{Refusal}
+use Rattle.std.specs.Prelude.{ℕ, ◌+◌, cond, List, [], ◌∷◌, map, take, drop, None, Option, Some, Result, Ok, Err}
 use Rattle.std.specs.Borrow.{Bor}
 use Rattle.policy.specs.declared.header.Header.{Header}
 use Rattle.policy.specs.declared.entry.Entry as entry
-use Rattle.policy.specs.declared.entry.Caught.{Caught}
-use Rattle.policy.specs.declared.entry.Caught.TheVariants.{By}
-use Rattle.policy.specs.declared.entry.Caught.TheVariants as catch
 use Rattle.policy.specs.Header.{among, headers}
 use Rattle.policy.specs.Entry.{crossed}
 use Rattle.policy.specs.Policy.{catcher}
@@ -13,30 +11,27 @@ use Rattle.policy.specs.Refusals.{Answer, refusal, accepted, is_accepted, first_
 use Rattle.wire.specs.Format.{record_size, list_limit, version_in, place_in, list_in}
 use Rattle.wire.specs.Lists.{empty_entry}
 use Rattle.wire.specs.Checks.{file_checks, checks_of}
-use Rattle.lookup.specs.declared.file.Looked.{Looked}
-use Rattle.lookup.specs.declared.file.Looked.TheVariants.{Entry, Uncaught, Refused}
 
 -- the values of an accepted answer: the number of the entry that catches the header, if one does
-abbrev pub caught_values : Caught → List ℕ
-caught_values (By i) = i ∷ []
-caught_values catch.Uncaught = []
+abbrev pub caught_values : Option ℕ → List ℕ
+caught_values (Some i) = i ∷ []
+caught_values None = []
 
 -- the companion call's answer in 01's terms
-abbrev pub looked : Looked → Answer
-looked (Entry i) = accepted (i ∷ [])
-looked Uncaught = accepted []
-looked (Refused r) = refusal r
+abbrev pub looked : Result (Option ℕ) Refusal → Answer
+looked (Ok c) = accepted (caught_values c)
+looked (Err r) = refusal r
 
 -- Definition 3 for any combination of numbers: nothing catches one that is no header (02, Wish 1)
-abbrev pub header_catcher : List entry.Entry → Header → Caught
-header_catcher p h = cond (among headers h) (catcher p h) catch.Uncaught
+abbrev pub header_catcher : List entry.Entry → Header → Option ℕ
+header_catcher p h = cond (among headers h) (catcher p h) None
 
 -- lookup: checks 1 to 4 of a file of up to 256 entries, then Definition 3 over the list that the file holds
 abbrev pub lookup_of : List ℕ → Header → Answer
 lookup_of s h = first_of (file_checks s list_limit) (accepted (caught_values (header_catcher (list_in s) h)))
 
 -- the answer of a lookup in a table in 01's terms: the entry's number, and nothing for "uncaught"
-abbrev pub caught_answer : Caught → Answer
+abbrev pub caught_answer : Option ℕ → Answer
 caught_answer c = accepted (caught_values c)
 
 -- an entry of a table, which nobody has checked: a crossed one counts as one that matches nothing
@@ -57,9 +52,9 @@ abbrev pub no_part : Part
 no_part = record { start = 0; size = 0 }
 
 -- the catching record's part of a file: it has the size of its file's records
-abbrev pub record_part : List ℕ → Caught → Part
-record_part s (By i) = record { start = place_in s i; size = record_size (version_in s) }
-record_part s catch.Uncaught = no_part
+abbrev pub record_part : List ℕ → Option ℕ → Part
+record_part s (Some i) = record { start = place_in s i; size = record_size (version_in s) }
+record_part s None = no_part
 
 -- the part that lookup hands back, also where the file is refused
 abbrev pub part_for : List ℕ → Header → Part

@@ -1,13 +1,13 @@
 // Whole mergings, installings and trials: filings on an empty bench, then the call.
-ghost use Rattle.std.specs.Prelude.{◌≡◌, List, ℕ};
-ghost use Rattle.bench.specs.declared.named.Named.{Named};
+ghost use Rattle.std.specs.Prelude.{Option, ◌≡◌, List, ℕ};
 ghost use Rattle.bench.specs.Answers.{merged_as};
 ghost use Rattle.bench.specs.Calls.{merging, installing, trying, answer_to, lent_after, bench_after};
 ghost use Rattle.report.specs.Report.{filings_of};
 ghost use Rattle.measured.specs.steps.Numbers.{merge_number};
 
-use bench::calls::{Bench, MergeAnswer};
-use policy::refusal::number_of;
+use bench::calls::Bench;
+use policy::refusal::Refusal;
+use reconcile::ending::Merged;
 use report::filings::put_filings;
 
 // The bench with the filings of the program's input. Their lines go to a buffer without room for any.
@@ -21,12 +21,12 @@ fn filed_bench(input: &[u8]) -> Bench
 }
 
 // The number of entries, or 256 plus the number of the refusal.
-fn merge_number(a: MergeAnswer) -> usize
-    ensures { (ns : List Named) → result ≡ merge_number (merged_as a ns) }
+fn merge_number(a: Result<Merged, Refusal>) -> usize
+    ensures { (ns : List (Option ℕ)) → result ≡ merge_number (merged_as a ns) }
 {
     match a {
-        MergeAnswer::Merged { count, length: _ } => count,
-        MergeAnswer::Refused(r) => 256 + number_of(r) as usize,
+        Ok(merged) => merged.count,
+        Err(r) => 256 + usize::from(r.number()),
     }
 }
 

@@ -3,13 +3,12 @@ ghost use Rattle.std.specs.Prelude.{◌≡◌, List, ℕ};
 ghost use Rattle.measured.specs.steps.Numbers.{wanted, measured_search};
 
 use policy::entry::sides_of;
-use policy::refusal::number_of;
-use region::search::{Searched, Want, search_file};
+use region::search::{Want, search_file};
 use wire::format::{MERGED_VERSION, record_size};
 use wire::header::put_header;
 use wire::record::read_entry;
 
-// What is looked for: 0 for uncaught, 1 for caught by the entry of a number, else a set other than it.
+// What is looked for, by a number as C gives it: 0 for uncaught, 1 for caught by the entry of a number, else a set other than it.
 fn want_of(want: u32, value: u16) -> Want
     ensures { result ≡ wanted want value }
 {
@@ -39,11 +38,11 @@ pub extern "C" fn measured_search(
     }
     let b = sides_of(read_entry(record, 0, MERGED_VERSION));
     match search_file(file, &b, want_of(want, value)) {
-        Searched::Nothing => 0,
-        Searched::At { header, entry: _ } => {
-            put_header(buffer, header);
+        Ok(None) => 0,
+        Ok(Some(found)) => {
+            put_header(buffer, found.header);
             1
         }
-        Searched::Refused(r) => 256 + number_of(r) as u32,
+        Err(r) => 256 + u32::from(r.number()),
     }
 }

@@ -5,7 +5,7 @@ ghost use Rattle.lookup.specs.Lookup.{caught_answer, table_lookup_of};
 ghost use Rattle.measured.specs.steps.Numbers.{caught_number};
 
 use lookup::table::lookup_table;
-use policy::entry::{Caught, Entry};
+use policy::entry::Entry;
 use policy::header::Header;
 
 // The header of six numbers.
@@ -29,16 +29,6 @@ fn header_of(
     }
 }
 
-// The number of an entry, 256 for none.
-fn number_of(c: Caught) -> usize
-    ensures { result ≡ caught_number (caught_answer c) }
-{
-    match c {
-        Caught::By(i) => i,
-        Caught::Uncaught => 256,
-    }
-}
-
 // The number of the entry of a table that catches a header, 256 if none does.
 #[unsafe(no_mangle)]
 pub extern "C" fn measured_table(
@@ -52,8 +42,6 @@ pub extern "C" fn measured_table(
 ) -> usize
     ensures { result ≡ caught_number (table_lookup_of table.now (header (local, (remote, (local_port, (remote_port, (protocol, (direction, tt)))))))) }
 {
-    number_of(lookup_table(
-        table,
-        header_of(local, remote, local_port, remote_port, protocol, direction),
-    ))
+    let h = header_of(local, remote, local_port, remote_port, protocol, direction);
+    lookup_table(table, h).unwrap_or(256)
 }

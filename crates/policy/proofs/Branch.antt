@@ -1,11 +1,10 @@
 -- The search of a box goes by the pieces that a selector leaves. Over any set of headers.
 -- Assumes nothing.
+use Rattle.std.specs.Prelude.{None, Option, Some}
 use mathlib.Core.Path.{◌≡◌, refl, sym, ◌∙◌, ap, ap₂, fun_ext}
 use mathlib.Core.Bool.{Bool, true, false, not, cond, ◌&&◌, ◌||◌, and-false, and-true, and-or_distrib_left}
 use mathlib.Core.List.{List, [], ◌∷◌, map}
 use Rattle.policy.specs.declared.header.Header.{Header}
-use Rattle.policy.specs.declared.header.Found.{Found}
-use Rattle.policy.specs.declared.header.Found.TheVariants.{At, Nothing}
 use Rattle.policy.specs.Box.{inside, proper, meet}
 use Rattle.policy.specs.steps.Boxes.{lows}
 use Rattle.policy.specs.steps.Cut.{cut}
@@ -20,16 +19,16 @@ use Rattle.policy.proofs.Least.{agree, union, lesser_assoc, least_at, least_none
 
 -- ---- what is found lies in the box, and has the property
 
-pub found_lies : (hs : Headers) (b : Box) (P : Header → Bool) (h : Header) → least_in hs b P ≡ At h → lies b h ≡ true
+pub found_lies : (hs : Headers) (b : Box) (P : Header → Bool) (h : Header) → least_in hs b P ≡ Some h → lies b h ≡ true
 unfolding least_in
 found_lies hs b P h e = and_left (lies b h) (P h) (at_tells hs (λ h. lies b h && P h) h e).1
 
-pub found_has : (hs : Headers) (b : Box) (P : Header → Bool) (h : Header) → least_in hs b P ≡ At h → P h ≡ true
+pub found_has : (hs : Headers) (b : Box) (P : Header → Bool) (h : Header) → least_in hs b P ≡ Some h → P h ≡ true
 unfolding least_in
 found_has hs b P h e = and_right (lies b h) (P h) (at_tells hs (λ h. lies b h && P h) h e).1
 
 -- a crossed box holds no header
-pub crossed_none : (hs : Headers) (P : Header → Bool) (b : Box) → proper arity b ≡ false → least_in hs b P ≡ Nothing
+pub crossed_none : (hs : Headers) (P : Header → Bool) (b : Box) → proper arity b ≡ false → least_in hs b P ≡ None
 unfolding least_in
 crossed_none hs P b e = least_none hs (λ h. lies b h && P h) λ g a. is_false (lies b g && P g) λ i. clash (in_proper arity b (fields g) (and_left (lies b g) (P g) i)) e
 
@@ -37,7 +36,7 @@ crossed_none hs P b e = least_none hs (λ h. lies b h && P h) λ g a. is_false (
 
 -- the low corner of a box is its least header, if it is one
 pub corner : (hs : Headers) (b : Box) (P : Header → Bool) → among hs (header (lows arity b)) ≡ true → proper arity b ≡ true → P (header (lows arity b)) ≡ true
-    → least_in hs b P ≡ At (header (lows arity b))
+    → least_in hs b P ≡ Some (header (lows arity b))
 unfolding least_in
 corner hs b P a p o =
     least_at hs (λ h. lies b h && P h) (header (lows arity b)) a (and_intro (corner_in_lem arity b p) o)
@@ -67,16 +66,16 @@ least_in-union hs x P Q = ap (least hs) (fun_ext λ h. spread (lies x h) (P h) (
     spread false b c = refl
 
 -- where Q leaves nothing below best, neither does a property that implies Q
-pub implied : (hs : Headers) (x : Box) (P Q : Header → Bool) (best : Found) → ((h : Header) → (P h || Q h) ≡ Q h)
+pub implied : (hs : Headers) (x : Box) (P Q : Header → Bool) (best : Option Header) → ((h : Header) → (P h || Q h) ≡ Q h)
     → lesser (least_in hs x Q) best ≡ best → lesser (least_in hs x P) best ≡ best
 implied hs x P Q best f e =
     ap (lesser (least_in hs x P)) (sym e)
     ∙ sym (lesser_assoc (least_in hs x P) (least_in hs x Q) best)
-    ∙ ap (λ (r : Found). lesser r best) (sym (least_in-union hs x P Q) ∙ ap (least_in hs x) (fun_ext f))
+    ∙ ap (λ (r : Option Header). lesser r best) (sym (least_in-union hs x P Q) ∙ ap (least_in hs x) (fun_ext f))
     ∙ e
 
 -- a property that is asked for, or not
-pub least_in-if : (hs : Headers) (b : Box) (P : Header → Bool) (w : Bool) → least_in hs b (λ h. P h && w) ≡ cond w (least_in hs b P) Nothing
+pub least_in-if : (hs : Headers) (b : Box) (P : Header → Bool) (w : Bool) → least_in hs b (λ h. P h && w) ≡ cond w (least_in hs b P) None
 least_in-if hs b P true = ap (least_in hs b) (fun_ext λ h. and-true (P h))
 least_in-if hs b P false = unfold least_in in least_none hs (λ h. lies b h && (P h && false)) λ h a. ap (lies b h &&◌) (and-false (P h)) ∙ and-false (lies b h)
 
@@ -91,7 +90,7 @@ abbrev pub always : Header → Bool
 always h = true
 
 -- a search that asks nothing more, or that is not asked
-pub least_in-when : (hs : Headers) (b : Box) (w : Bool) → least_in hs b (λ h. w) ≡ cond w (least_in hs b always) Nothing
+pub least_in-when : (hs : Headers) (b : Box) (w : Bool) → least_in hs b (λ h. w) ≡ cond w (least_in hs b always) None
 least_in-when hs b true = refl
 least_in-when hs b false = unfold least_in in least_none hs (λ h. lies b h && false) λ g a. and-false (lies b g)
 

@@ -2,22 +2,17 @@
 -- Assumes nothing.
 use Prim.Native.Nat.{ℕ, zero, suc, ◌<◌, ◌≤◌}
 use native.Mathlib.Omega.{arith}
-use mathlib.Core.Path.{◌≡◌, refl, sym, ◌∙◌, ap, ap₂}
-use mathlib.Core.Bool.{Bool, true, false, not, ◌&&◌, ◌||◌}
+use mathlib.Core.Path.{◌≡◌, refl, sym, ◌∙◌, ap}
+use mathlib.Core.Bool.{Bool, true, false, not, ◌||◌}
 use mathlib.Core.List.{List}
 use lib.Dec.{ltb, leb}
 use borrow.Author.Tests.{ltb-false, leb-true, lt-ltb, le-ltb}
-use Rattle.policy.specs.declared.header.Header.{Header}
-use Rattle.policy.specs.declared.entry.Entry.{Entry}
 use Rattle.policy.specs.Row.{Row}
 use Rattle.policy.specs.Box.{Range, range, proper}
-use Rattle.policy.specs.Header.{arity, fields, Box, among, headers}
+use Rattle.policy.specs.Header.{arity, Box}
 use Rattle.policy.specs.Direction.{directions, crossed_box}
-use Rattle.policy.specs.Entry.{selector, matches, crossed}
-use Rattle.policy.specs.steps.Directions.{direction_crossed}
 use Rattle.policy.specs.Sides.{field, box_of}
-use Rattle.policy.proofs.Bool.{and_left, and_right, or_right, not_true, not_false}
-use Rattle.policy.proofs.Box.{in_proper}
+use Rattle.policy.proofs.Bool.{and_left, and_right, or_right}
 use Rattle.policy.proofs.Corner.{nth}
 
 -- range number f of a proper box
@@ -59,32 +54,3 @@ pub end_within : (b : List ℕ) (h : ℕ) (t : Bool) → h ≡ (field b 0 5).hig
 unfolding box_of
 end_within b h true e l p = sym (proper_crossed (box_of b 0) (sym p) ∙ ap (ltb 1) (sym e) ∙ le-ltb 1 h l)
 end_within b h false e l p = ap (λ (t : Bool). not t || (ltb 1 (field b 0 5).low || ltb 1 (field b 0 5).high)) p
-
--- ---- the entry that catches a header
-
--- one that matches has no low above its high, and is crossed by its direction alone
-crossed_by_direction : (e : Entry) (h : Header) → matches e h ≡ true → direction_crossed e.direction_low e.direction_high ≡ crossed e
-crossed_by_direction e h m =
-    let is = in_proper arity (selector e) (fields h) m in
-    ap (◌|| (ltb 1 e.direction_low || ltb 1 e.direction_high)) (le-ltb e.direction_high e.direction_low (proper_at arity 5 (selector e) (omega arith) is) ∙ sym (ap not is))
-
-pub caught_if_uncrossed : (e : Entry) (h : Header) (t u c : Bool) → t ≡ among headers h → not t ≡ false → u ≡ matches e h → not u ≡ false
-    → c ≡ direction_crossed e.direction_low e.direction_high → not c ≡ (among headers h && (not (crossed e) && matches e h))
-caught_if_uncrossed e h t u c p n q m o =
-    let is = sym q ∙ not_false m in
-    ap not (o ∙ crossed_by_direction e h is)
-    ∙ sym (ap₂ (λ (a b : Bool). a && (not (crossed e) && b)) (sym p ∙ not_false n) is ∙ last (not (crossed e)))
-  where
-    last : (a : Bool) → (a && true) ≡ a
-    last true = refl
-    last false = refl
-
--- none that does not match
-pub caught_by_none : (e : Entry) (h : Header) (t u : Bool) → t ≡ among headers h → not t ≡ false → u ≡ matches e h → not u ≡ true
-    → false ≡ (among headers h && (not (crossed e) && matches e h))
-caught_by_none e h t u p n q m =
-    sym (ap₂ (λ (a b : Bool). a && (not (crossed e) && b)) (sym p ∙ not_false n) (sym q ∙ not_true m) ∙ none (not (crossed e)))
-  where
-    none : (a : Bool) → (a && false) ≡ false
-    none true = refl
-    none false = refl

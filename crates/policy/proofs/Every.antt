@@ -1,15 +1,12 @@
 -- Rows as functions of a field's number: tests of every field, and rows whose fields agree.
 -- Assumes nothing.
-use Prim.Native.Nat.{ℕ, zero, suc, ◌<◌, min, max}
+use Prim.Native.Nat.{ℕ, zero, suc, ◌<◌}
 use native.Mathlib.Omega.{arith}
 use mathlib.Core.Path.{◌≡◌, refl, sym, ◌∙◌, ap}
 use mathlib.Core.Bool.{Bool, true, false, ◌&&◌}
-use lib.Dec.{leb, ltb, eqb}
-use borrow.Author.Tests.{leb-true, leb-false, eqb-true, eq-eqb, ne_eqb}
-use Rattle.policy.specs.Row.{precedes}
+use lib.Dec.{leb}
 use Rattle.policy.specs.Box.{Range, within, common, inside, proper, meet}
-use Rattle.policy.specs.steps.Boxes.{same_box}
-use Rattle.policy.proofs.Conjunctions.{differs, agrees, paired}
+use Rattle.policy.proofs.Conjunctions.{paired}
 use Rattle.policy.specs.Sides.{row_of}
 
 -- every number below k passes
@@ -63,42 +60,6 @@ pub proper_every : (k : ℕ) (g : ℕ → Range) → every k (λ j. leb (g j).lo
 proper_every zero g = refl
 proper_every (suc k) g = ap (leb (g 0).low (g 0).high &&◌) (proper_every k (λ j. g (suc j)))
 
-pub same_every : (k : ℕ) (g h : ℕ → Range) → every k (λ j. eqb (g j).low (h j).low && eqb (g j).high (h j).high) ≡ same_box k (row_of k g) (row_of k h)
-same_every zero g h = refl
-same_every (suc k) g h = ap ((eqb (g 0).low (h 0).low && eqb (g 0).high (h 0).high) &&◌) (same_every k (λ j. g (suc j)) (λ j. h (suc j)))
-
 pub meet_fields : (k : ℕ) (g h : ℕ → Range) → row_of k (λ j. common (g j) (h j)) ≡ meet k (row_of k g) (row_of k h)
 meet_fields zero g h = refl
 meet_fields (suc k) g h = paired refl (meet_fields k (λ j. g (suc j)) (λ j. h (suc j)))
-
--- the order of rows: the first field that differs decides
-pub first_decides : (k f : ℕ) (x y : ℕ → ℕ) → f < k → Passed (λ j. eqb (x j) (y j)) f → (x f ≡ y f → ⊥) → ltb (x f) (y f) ≡ precedes k (row_of k x) (row_of k y)
-first_decides zero f x y l p n = absurd (none f l)
-  where
-    none : (f : ℕ) → f < 0 → ⊥
-    none f l = omega arith
-first_decides (suc k) zero x y l p n = differs (x 0) (y 0) (precedes k (row_of k (λ j. x (suc j))) (row_of k (λ j. y (suc j)))) n
-first_decides (suc k) (suc f) x y l p n =
-    agrees (x 0) (y 0) (precedes k (row_of k (λ j. x (suc j))) (row_of k (λ j. y (suc j)))) (ltb (x (suc f)) (y (suc f))) (eqb-true (x 0) (y 0) (p 0 (omega arith)))
-    (first_decides k f (λ j. x (suc j)) (λ j. y (suc j)) (omega arith) (λ j m. p (suc j) (up j f m)) n)
-  where
-    up : (j f : ℕ) → j < f → suc j < suc f
-    up j f l = omega arith
-
-pub none_decides : (k : ℕ) (x y : ℕ → ℕ) → Passed (λ j. eqb (x j) (y j)) k → false ≡ precedes k (row_of k x) (row_of k y)
-none_decides zero x y p = refl
-none_decides (suc k) x y p =
-    agrees (x 0) (y 0) (precedes k (row_of k (λ j. x (suc j))) (row_of k (λ j. y (suc j)))) false (eqb-true (x 0) (y 0) (p 0 (omega arith)))
-    (none_decides k (λ j. x (suc j)) (λ j. y (suc j)) λ j m. p (suc j) (up j k m))
-  where
-    up : (j f : ℕ) → j < f → suc j < suc f
-    up j f l = omega arith
-
--- a number is in a range if the greater of it and the low is the lesser of it and the high
-pub between : (l x h a b : ℕ) → a ≡ max l x → b ≡ min x h → eqb a b ≡ (leb l x && leb x h)
-between l x h a b p q = go (leb l x) (leb x h) refl refl
-  where
-    go : (s t : Bool) → leb l x ≡ s → leb x h ≡ t → eqb a b ≡ (s && t)
-    go true true m n = eq-eqb a b (let u = leb-true l x m in let v = leb-true x h n in omega arith)
-    go true false m n = ne_eqb a b λ e. let u = leb-true l x m in let v = leb-false x h n in omega arith
-    go false t m n = ne_eqb a b λ e. let u = leb-false l x m in omega arith

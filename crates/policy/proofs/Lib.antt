@@ -14,7 +14,6 @@ pub mod Loops
 pub mod Numbers
 pub mod Corner
 pub mod HeaderSet
-pub mod OneTest
 pub mod Directions
 pub mod Protocols
 pub mod Slices

@@ -2,22 +2,17 @@
 -- Assumes nothing.
 use Prim.Native.Nat.{ℕ, ◌<◌, ◌≤◌, ◌+◌, ◌*◌, min, max}
 use native.Mathlib.Omega.{arith}
-use native.Mathlib.Nat.{add-zero}
 use mathlib.Core.Path.{◌≡◌, refl, sym, ◌∙◌, ap, ap₂}
 use mathlib.Core.Bool.{Bool, true, false, ◌&&◌}
 use mathlib.Core.List.{List}
-use lib.Dec.{leb, ltb, eqb}
-use lib.ListN.{length, get_or, set, length-set}
-use lib.Seq.{get_or-set_same, get_or-set_other}
-use borrow.Author.Tests.{lt-leb, le-leb, ltb-true, ltb-false, eq-eqb, ne_eqb}
-use Rattle.policy.specs.Row.{precedes}
+use lib.Dec.{leb, ltb}
+use lib.ListN.{length, get_or}
+use borrow.Author.Tests.{lt-leb, le-leb, ltb-true, ltb-false}
 use Rattle.policy.specs.Box.{Range, within, common, inside, proper, meet}
-use Rattle.policy.specs.steps.Boxes.{same_box}
 use Rattle.policy.specs.Header.{arity}
 use Rattle.policy.specs.Sides.{row_of, field, box_of}
 use Rattle.policy.specs.steps.Rows.{numbers_in}
-use Rattle.policy.proofs.Conjunctions.{ends_are}
-use Rattle.policy.proofs.Every.{every, Passed, every_passed, one_fails, row_ext, inside_every, proper_every, same_every, meet_fields, first_decides, none_decides}
+use Rattle.policy.proofs.Every.{every, Passed, every_passed, one_fails, row_ext, inside_every, proper_every, meet_fields}
 
 -- one field more has passed
 pub passed_more : (t : ℕ → Bool) (f : ℕ) → Passed t f → t f ≡ true → Passed t (f + 1)
@@ -53,15 +48,7 @@ pub proper_is : (b : List ℕ) → every arity (proper_at b) ≡ proper arity (b
 unfolding box_of
 proper_is b = proper_every arity (field b 0)
 
--- two boxes agree in a field
-abbrev pub same_at : List ℕ → List ℕ → ℕ → Bool
-same_at a b j = eqb (field a 0 j).low (field b 0 j).low && eqb (field a 0 j).high (field b 0 j).high
-
-pub same_is : (a b : List ℕ) → every arity (same_at a b) ≡ same_box arity (box_of a 0) (box_of b 0)
-unfolding box_of
-same_is a b = same_every arity (field a 0) (field b 0)
-
--- a number lies in a box, and two numbers agree, in a field
+-- a number lies in a box in a field
 abbrev pub inside_at : List ℕ → List ℕ → ℕ → Bool
 inside_at b x j = within (field b 0 j) (get_or x j 0)
 
@@ -69,10 +56,7 @@ pub inside_is : (b x : List ℕ) → every arity (inside_at b x) ≡ inside arit
 unfolding box_of
 inside_is b x = inside_every arity (field b 0) (λ j. get_or x j 0)
 
-abbrev pub agree_at : List ℕ → List ℕ → ℕ → Bool
-agree_at x y j = eqb (get_or x j 0) (get_or y j 0)
-
--- ---- the loops: a field stops one, a field lets it go on, and it ends where all have passed
+-- ---- the loops: a field stops one, and it ends where all have passed
 
 module _ (s : List ℕ) (at : ℕ) (b : List ℕ) (f : ℕ) where
   module _ (bl bh sl sh l h : ℕ) (p : bl ≡ (field b 0 f).low) (q : bh ≡ (field b 0 f).high) (u : sl ≡ (field s at f).low) (v : sh ≡ (field s at f).high) (m : l ≡ max bl sl) (n : h ≡ min bh sh) where
@@ -81,9 +65,6 @@ module _ (s : List ℕ) (at : ℕ) (b : List ℕ) (f : ℕ) where
 
     pub part_crossed : f < arity → h < l → false ≡ proper arity (meet arity (box_of b 0) (box_of s at))
     part_crossed i k = one_fails arity f (meets_at s at b) i (sym meets_here ∙ lt-leb l h k) ∙ meets_is s at b
-
-    pub part_more : l ≤ h → Passed (meets_at s at b) f → Passed (meets_at s at b) (f + 1)
-    part_more k c = passed_more (meets_at s at b) f c (sym meets_here ∙ le-leb l h k)
 
   pub part_proper : arity ≤ f → Passed (meets_at s at b) f → true ≡ proper arity (meet arity (box_of b 0) (box_of s at))
   part_proper l c = all_passed (meets_at s at b) arity f l c ∙ meets_is s at b
@@ -100,51 +81,16 @@ module _ (b x : List ℕ) (f : ℕ) where
       pub number_above : f < arity → l ≤ get_or x f 0 → h < get_or x f 0 → false ≡ inside arity (box_of b 0) (numbers_in x)
       number_above m n k = one_fails arity f (inside_at b x) m (here false n (lt-leb (get_or x f 0) h k)) ∙ inside_is b x
 
-      pub number_more : l ≤ get_or x f 0 → get_or x f 0 ≤ h → Passed (inside_at b x) f → Passed (inside_at b x) (f + 1)
-      number_more n k c = passed_more (inside_at b x) f c (here true n (le-leb (get_or x f 0) h k))
-
   pub numbers_lie : arity ≤ f → Passed (inside_at b x) f → true ≡ inside arity (box_of b 0) (numbers_in x)
   numbers_lie l c = all_passed (inside_at b x) arity f l c ∙ inside_is b x
-
-module _ (x y : List ℕ) (f : ℕ) where
-  pub first_differs : f < arity → (get_or x f 0 ≡ get_or y f 0 → ⊥) → Passed (agree_at x y) f → ltb (get_or x f 0) (get_or y f 0) ≡ precedes arity (numbers_in x) (numbers_in y)
-  first_differs m n c = first_decides arity f (λ j. get_or x j 0) (λ j. get_or y j 0) m c n
-
-  pub agree_more : get_or x f 0 ≡ get_or y f 0 → Passed (agree_at x y) f → Passed (agree_at x y) (f + 1)
-  agree_more e c = passed_more (agree_at x y) f c (eq-eqb (get_or x f 0) (get_or y f 0) e)
-
-  pub none_differs : arity ≤ f → Passed (agree_at x y) f → false ≡ precedes arity (numbers_in x) (numbers_in y)
-  none_differs l c = none_decides arity (λ j. get_or x j 0) (λ j. get_or y j 0) λ j m. c j (wide j f m l)
-    where
-      wide : (j f : ℕ) → j < arity → arity ≤ f → j < f
-      wide j f m l = omega arith
 
 module _ (b : List ℕ) (f : ℕ) where
   module _ (l h : ℕ) (p : l ≡ (field b 0 f).low) (q : h ≡ (field b 0 f).high) where
     pub side_crossed : f < arity → h < l → false ≡ proper arity (box_of b 0)
     side_crossed m k = one_fails arity f (proper_at b) m (ap₂ leb (sym p) (sym q) ∙ lt-leb l h k) ∙ proper_is b
 
-    pub side_more : l ≤ h → Passed (proper_at b) f → Passed (proper_at b) (f + 1)
-    side_more k c = passed_more (proper_at b) f c (ap₂ leb (sym p) (sym q) ∙ le-leb l h k)
-
   pub sides_proper : arity ≤ f → Passed (proper_at b) f → true ≡ proper arity (box_of b 0)
   sides_proper l c = all_passed (proper_at b) arity f l c ∙ proper_is b
-
-module _ (a b : List ℕ) (f : ℕ) where
-  module _ (x y : ℕ) (p : x ≡ (field a 0 f).low) (q : y ≡ (field b 0 f).low) where
-    pub low_differs : f < arity → (x ≡ y → ⊥) → false ≡ same_box arity (box_of a 0) (box_of b 0)
-    low_differs m n = one_fails arity f (same_at a b) m (ap (◌&& eqb (field a 0 f).high (field b 0 f).high) (ap₂ eqb (sym p) (sym q) ∙ ne_eqb x y n)) ∙ same_is a b
-
-    module _ (u v : ℕ) (r : u ≡ (field a 0 f).high) (s : v ≡ (field b 0 f).high) where
-      pub high_differs : f < arity → x ≡ y → (u ≡ v → ⊥) → false ≡ same_box arity (box_of a 0) (box_of b 0)
-      high_differs m e n =
-          one_fails arity f (same_at a b) m (ap₂ ◌&&◌ (ap₂ eqb (sym p) (sym q) ∙ eq-eqb x y e) (ap₂ eqb (sym r) (sym s) ∙ ne_eqb u v n)) ∙ same_is a b
-
-      pub same_more : x ≡ y → u ≡ v → Passed (same_at a b) f → Passed (same_at a b) (f + 1)
-      same_more e g c = passed_more (same_at a b) f c (ap₂ ◌&&◌ (ap₂ eqb (sym p) (sym q) ∙ eq-eqb x y e) (ap₂ eqb (sym r) (sym s) ∙ eq-eqb u v g))
-
-  pub same_all : arity ≤ f → Passed (same_at a b) f → true ≡ same_box arity (box_of a 0) (box_of b 0)
-  same_all l c = all_passed (same_at a b) arity f l c ∙ same_is a b
 
 -- ---- boxes that a loop fills, field by field
 
@@ -158,41 +104,6 @@ filled_box r g f l e = row_ext arity (field r 0) g λ j m. e.1 j (wide j f m l)
   where
     wide : (j f : ℕ) → j < arity → arity ≤ f → j < f
     wide j f m l = omega arith
-
-pub filled_more : (r : List ℕ) (g : ℕ → Range) (f x y : ℕ) → f < arity → x ≡ (g f).low → y ≡ (g f).high → Filled r g f
-    → Filled (set (set r (2 * f) x) (2 * f + 1) y) g (f + 1)
-filled_more r g f x y l p q e = (length-set (set r (2 * f) x) (2 * f + 1) y ∙ length-set r (2 * f) x ∙ e.0, λ j m. go j m (ltb j f) refl)
-  where
-    t : List ℕ
-    t = set (set r (2 * f) x) (2 * f + 1) y
-
-    -- a place of another field
-    other : (k : ℕ) → (k ≡ 2 * f → ⊥) → (k ≡ 2 * f + 1 → ⊥) → get_or t k 0 ≡ get_or r k 0
-    other k m n = get_or-set_other (set r (2 * f) x) (2 * f + 1) k y 0 n ∙ get_or-set_other r (2 * f) k x 0 m
-
-    even : (f : ℕ) → 2 * f ≡ 2 * f + 1 → ⊥
-    even f e = omega arith
-
-    fits : (f n : ℕ) → f < arity → n ≡ 2 * arity → 2 * f < n
-    fits f n l e = omega arith
-
-    fits_next : (f n : ℕ) → f < arity → n ≡ 2 * arity → 2 * f + 1 < n
-    fits_next f n l e = omega arith
-
-    here : field t 0 f ≡ g f
-    here =
-        ends_are
-        (ap (λ (k : ℕ). get_or t k 0) (add-zero (2 * f)) ∙ get_or-set_other (set r (2 * f) x) (2 * f + 1) (2 * f) y 0 (even f) ∙ get_or-set_same r (2 * f) x 0 (fits f (length r) l e.0) ∙ p)
-        (ap (λ (k : ℕ). get_or t k 0) (add-zero (2 * f + 1)) ∙ get_or-set_same (set r (2 * f) x) (2 * f + 1) y 0 (fits_next f (length (set r (2 * f) x)) l (length-set r (2 * f) x ∙ e.0)) ∙ q)
-
-    last : (j : ℕ) → f ≤ j → j < f + 1 → j ≡ f
-    last j m l = omega arith
-
-    go : (j : ℕ) → j < f + 1 → (b : Bool) → ltb j f ≡ b → field t 0 j ≡ g j
-    go j m true n =
-        let l = ltb-true j f n in
-        ends_are (other (2 * j + 0) (omega arith) (omega arith)) (other (2 * j + 1 + 0) (omega arith) (omega arith)) ∙ e.1 j l
-    go j m false n = ap (field t 0) (last j (ltb-false j f n) m) ∙ here ∙ ap g (sym (last j (ltb-false j f n) m))
 
 -- the box of a row, and a common part
 pub filled_row : (r s : List ℕ) (at f : ℕ) → arity ≤ f → Filled r (field s at) f → box_of r 0 ≡ box_of s at

@@ -3,19 +3,14 @@
 use Prim.Native.Nat.{ℕ, zero, suc, ◌+◌, ◌*◌, ◌/◌}
 use native.Mathlib.Omega.{arith}
 use mathlib.Core.Path.{◌≡◌, refl, sym, ◌∙◌, ap, ap₂}
-use mathlib.Core.Bool.{Bool}
 use mathlib.Core.List.{List, [], ◌∷◌, ◌++◌, append_assoc}
 use lib.ListN.{length, get_or, length-append}
 use lib.Seq.{get_or-append-add}
 use Rattle.policy.specs.declared.entry.Entry.{Entry}
-use Rattle.policy.specs.declared.header.Header.{Header}
-use Rattle.policy.specs.Row.{precedes}
-use Rattle.policy.specs.Box.{inside}
-use Rattle.policy.specs.Header.{arity, before}
-use Rattle.policy.specs.Entry.{entry, selector, matches}
-use Rattle.policy.specs.Refusals.{numbers}
+use Rattle.policy.specs.Header.{arity}
+use Rattle.policy.specs.Entry.{entry, selector}
 use Rattle.policy.specs.Sides.{field, box_of}
-use Rattle.policy.specs.steps.Rows.{sides, row_size, numbers_in, row_at, rows_from, rows_in, numbers_of, all_numbers}
+use Rattle.policy.specs.steps.Rows.{sides, row_size, row_at, rows_from, rows_in, numbers_of, all_numbers}
 use Rattle.policy.proofs.Conjunctions.{ends_are}
 use Rattle.policy.proofs.Every.{row_ext}
 
@@ -73,11 +68,3 @@ numbers_in_lem es = ap (rows_from (all_numbers es) 0) (whole (length (all_number
 pub numbers_append : (es ds : List Entry) → all_numbers (es ++ ds) ≡ all_numbers es ++ all_numbers ds
 numbers_append [] ds = refl
 numbers_append (e ∷ es) ds = ap (numbers_of e ++◌) (numbers_append es ds) ∙ sym (append_assoc (numbers_of e) (all_numbers es) (all_numbers ds))
-
--- an entry's sides hold a header's numbers if it matches the header
-pub sides_match : (e : Entry) (h : Header) (s x : List ℕ) (t : Bool) → box_of s 0 ≡ selector e → x ≡ numbers h → t ≡ inside arity (box_of s 0) (numbers_in x) → t ≡ matches e h
-sides_match e h s x t p q r = r ∙ ap₂ (inside arity) p (ap numbers_in q)
-
--- headers in the order of their numbers
-pub numbers_before : (h g : Header) (x y : List ℕ) (t : Bool) → x ≡ numbers h → y ≡ numbers g → t ≡ precedes arity (numbers_in x) (numbers_in y) → t ≡ before h g
-numbers_before h g x y t p q r = r ∙ ap₂ (precedes arity) (ap numbers_in p) (ap numbers_in q)

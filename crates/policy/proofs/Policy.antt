@@ -1,5 +1,6 @@
 -- Lemmas 8 to 10 of 004, and what the tests of policy say in the words of the Definitions.
 -- Assumes nothing.
+use Rattle.std.specs.Prelude.{None, Option, Some}
 use Prim.Native.Nat.{ℕ, suc, ◌+◌}
 use native.Mathlib.Omega.{arith}
 use mathlib.Core.Path.{◌≡◌, refl, sym, ◌∙◌, ap}
@@ -8,9 +9,6 @@ use mathlib.Core.List.{List, [], ◌∷◌, ◌++◌}
 use lib.ListN.{length}
 use Rattle.policy.specs.declared.header.Header.{Header}
 use Rattle.policy.specs.declared.entry.Entry.{Entry}
-use Rattle.policy.specs.declared.header.Found.TheVariants.{Nothing}
-use Rattle.policy.specs.declared.entry.Caught.{Caught}
-use Rattle.policy.specs.declared.entry.Caught.TheVariants.{By, Uncaught}
 use Rattle.policy.specs.Header.{Headers, among}
 use Rattle.policy.specs.Least.{least}
 use Rattle.policy.specs.Entry.{matches}
@@ -73,7 +71,7 @@ further p h e i m c = record {
 }
 
 -- what `catcher` says: the entry's number, counted from n
-pub caught_by : (n : ℕ) (p : List Entry) (h : Header) (j : ℕ) → catcher_from n p h ≡ By j → (i : ℕ) × (j ≡ n + i) × Catches p i h
+pub caught_by : (n : ℕ) (p : List Entry) (h : Header) (j : ℕ) → catcher_from n p h ≡ Some j → (i : ℕ) × (j ≡ n + i) × Catches p i h
 caught_by n [] h j e = absurd (let z : ◌≡◌ {A = ℕ} 0 1 = cc in omega arith)
 caught_by n (e ∷ p) h j q = go (matches e h) refl q (caught_by (n + 1) p h j)
   where
@@ -83,24 +81,24 @@ caught_by n (e ∷ p) h j q = go (matches e h) refl q (caught_by (n + 1) p h j)
     here : (n j : ℕ) → n ≡ j → j ≡ n + 0
     here n j e = omega arith
 
-    go : (m : Bool) → matches e h ≡ m → cond m (By n) (catcher_from (n + 1) p h) ≡ By j
-        → (catcher_from (n + 1) p h ≡ By j → (i : ℕ) × (j ≡ n + 1 + i) × Catches p i h) → (i : ℕ) × (j ≡ n + i) × Catches (e ∷ p) i h
+    go : (m : Bool) → matches e h ≡ m → cond m (Some n) (catcher_from (n + 1) p h) ≡ Some j
+        → (catcher_from (n + 1) p h ≡ Some j → (i : ℕ) × (j ≡ n + 1 + i) × Catches p i h) → (i : ℕ) × (j ≡ n + i) × Catches (e ∷ p) i h
     go true m q ih = (0, here n j (cc), record { front = []; entry = e; back = p; whole = refl; place = refl; earlier = refl; matched = m })
     go false m q ih = let c = ih q in (suc c.0, c.1 ∙ up n c.0, further p h e c.0 m c.2)
 
-pub uncaught_by : (n : ℕ) (p : List Entry) (h : Header) → catcher_from n p h ≡ Uncaught → missed p h ≡ true
+pub uncaught_by : (n : ℕ) (p : List Entry) (h : Header) → catcher_from n p h ≡ None → missed p h ≡ true
 uncaught_by n [] h q = refl
 uncaught_by n (e ∷ p) h q = missed_cons e p h ∙ go (matches e h) q (uncaught_by (n + 1) p h)
   where
-    go : (m : Bool) → cond m (By n) (catcher_from (n + 1) p h) ≡ Uncaught → (catcher_from (n + 1) p h ≡ Uncaught → missed p h ≡ true) → (not m && missed p h) ≡ true
+    go : (m : Bool) → cond m (Some n) (catcher_from (n + 1) p h) ≡ None → (catcher_from (n + 1) p h ≡ None → missed p h ≡ true) → (not m && missed p h) ≡ true
     go true q ih = absurd (let z : ◌≡◌ {A = ℕ} 0 1 = cc in omega arith)
     go false q ih = ih q
 
-pub uncaught_when : (n : ℕ) (p : List Entry) (h : Header) → missed p h ≡ true → catcher_from n p h ≡ Uncaught
+pub uncaught_when : (n : ℕ) (p : List Entry) (h : Header) → missed p h ≡ true → catcher_from n p h ≡ None
 uncaught_when n [] h q = refl
 uncaught_when n (e ∷ p) h q = go (matches e h) (sym (missed_cons e p h) ∙ q) (uncaught_when (n + 1) p h)
   where
-    go : (m : Bool) → (not m && missed p h) ≡ true → (missed p h ≡ true → catcher_from (n + 1) p h ≡ Uncaught) → cond m (By n) (catcher_from (n + 1) p h) ≡ Uncaught
+    go : (m : Bool) → (not m && missed p h) ≡ true → (missed p h ≡ true → catcher_from (n + 1) p h ≡ None) → cond m (Some n) (catcher_from (n + 1) p h) ≡ None
     go true q ih = clash q refl
     go false q ih = ih q
 
@@ -121,9 +119,9 @@ catches_allows p i h c =
 pub lemma8 : (hs : Headers) (p : List Entry) → Covering hs p → (h : Header) → among hs h ≡ true → (i : ℕ) × Catches p i h
 lemma8 hs p c h a = go (catcher p h) refl
   where
-    go : (r : Caught) → catcher p h ≡ r → (i : ℕ) × Catches p i h
-    go (By j) e = let t = caught_by 0 p h j e in (t.0, t.2)
-    go Uncaught e = clash (uncaught_by 0 p h e) (ap not (c h a))
+    go : (r : Option ℕ) → catcher p h ≡ r → (i : ℕ) × Catches p i h
+    go (Some j) e = let t = caught_by 0 p h j e in (t.0, t.2)
+    go None e = clash (uncaught_by 0 p h e) (ap not (c h a))
 
 -- ---- Lemma 9: an entry that does not catch the header can go
 
@@ -148,15 +146,15 @@ equivalent_trans hs p q r f g h a = f h a ∙ g h a
 -- ---- the tests by `least` and the Definitions
 
 -- no header is missed exactly if the list is covering
-pub covering_by : (hs : Headers) (p : List Entry) → least hs (missed p) ≡ Nothing → Covering hs p
+pub covering_by : (hs : Headers) (p : List Entry) → least hs (missed p) ≡ None → Covering hs p
 covering_by hs p e h a = not_false (none_tells hs (missed p) e h a)
 
-pub covering_none : (hs : Headers) (p : List Entry) → Covering hs p → least hs (missed p) ≡ Nothing
+pub covering_none : (hs : Headers) (p : List Entry) → Covering hs p → least hs (missed p) ≡ None
 covering_none hs p c = least_none hs (missed p) λ h a. ap not (c h a)
 
 -- no header is allowed more by p than by q exactly if p refines q
-pub refines_by : (hs : Headers) (p q : List Entry) → least hs (exceeds p q) ≡ Nothing → Refines hs p q
+pub refines_by : (hs : Headers) (p q : List Entry) → least hs (exceeds p q) ≡ None → Refines hs p q
 refines_by hs p q e h a = not_false (none_tells hs (exceeds p q) e h a)
 
-pub refines_none : (hs : Headers) (p q : List Entry) → Refines hs p q → least hs (exceeds p q) ≡ Nothing
+pub refines_none : (hs : Headers) (p q : List Entry) → Refines hs p q → least hs (exceeds p q) ≡ None
 refines_none hs p q r = least_none hs (exceeds p q) λ h a. ap not (r h a)

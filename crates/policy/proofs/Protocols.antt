@@ -1,19 +1,20 @@
 -- The listed protocols of a range: from the least to the greatest of them, and whether there is one. Over any list.
 -- Assumes nothing.
-use Prim.Native.Nat.{ℕ, suc, ◌<◌, ◌≤◌, ◌-◌, min, max}
+use Prim.Native.Nat.{ℕ, ◌+◌, ◌<◌, ◌≤◌, min, max}
 use native.Mathlib.Omega.{arith}
-use mathlib.Core.Path.{◌≡◌, refl, sym, ◌∙◌, ap, ap₂, subst}
+use native.Mathlib.Numerals.{add-one}
+use mathlib.Core.Path.{◌≡◌, refl, sym, ◌∙◌, ap, subst}
 use mathlib.Core.Logic.{◌⊎◌, inl, inr}
 use mathlib.Core.Bool.{Bool, true, false, cond, ◌&&◌}
 use mathlib.Core.List.{List, [], ◌∷◌}
-use lib.Dec.{ltb, leb, eqb}
+use lib.Dec.{ltb, eqb}
 use lib.ListN.{length, get_or, drop}
 use lib.Seq.{drop-cons}
-use borrow.Author.Tests.{ltb-true, ltb-false, leb-true, le-leb, eqb-true, eq-eqb}
+use borrow.Author.Tests.{ltb-true, ltb-false, eqb-true, eq-eqb}
 use Rattle.policy.specs.Box.{Range, range, within}
 use Rattle.policy.specs.Ports.{one_of}
 use Rattle.policy.specs.steps.Narrowed.{narrowed}
-use Rattle.policy.proofs.Bool.{clash, and_left, and_right, or_elim, or_left, or_right, same_truth}
+use Rattle.policy.proofs.Bool.{clash, and_left, and_right, or_elim, or_left, or_right}
 use Rattle.policy.proofs.Conjunctions.{ends_are as ends_same}
 use Rattle.policy.proofs.Box.{low_le, le_high, within_by}
 
@@ -116,55 +117,45 @@ narrowed_ends qs r t l = go (ends_are qs r t)
     go (inl m) = absurd (none (narrowed qs r).low (narrowed qs r).high (ap (λ (r : Range). r.low) m) (ap (λ (r : Range). r.high) m) l)
     go (inr m) = m
 
--- so there is one among those of one protocol exactly if it is listed
-narrowed_one : (qs : List ℕ) (q : ℕ) → numbered qs ≡ true → leb (narrowed qs (range q q)).low (narrowed qs (range q q)).high ≡ one_of qs q
-narrowed_one qs q t = same_truth (leb n.low n.high) (one_of qs q) listed held
+-- ---- the loop over the list
+
+-- n and protocol q, if q lies in the range
+abbrev pub taken : Range → ℕ → Range → Range
+taken r q n = cond (within r q) (range (min q n.low) (max q n.high)) n
+
+-- n and those listed of the range
+abbrev pub taken_all : Range → Range → List ℕ → Range
+taken_all r n [] = n
+taken_all r n (q ∷ qs) = taken r q (taken_all r n qs)
+
+-- two are taken in either order
+taken_any : (r : Range) (p q : ℕ) (n : Range) → taken r q (taken r p n) ≡ taken r p (taken r q n)
+taken_any r p q n = go (within r p) (within r q)
   where
-    n : Range
-    n = narrowed qs (range q q)
+    at : Bool → ℕ → Range → Range
+    at b q n = cond b (range (min q n.low) (max q n.high)) n
 
-    between : (x q : ℕ) → q ≤ x → x ≤ q → x ≡ q
-    between x q l m = omega arith
+    least : (p q l : ℕ) → min q (min p l) ≡ min p (min q l)
+    least p q l = omega arith
 
-    listed : leb n.low n.high ≡ true → one_of qs q ≡ true
-    listed e =
-        let ends = narrowed_ends qs (range q q) t (leb-true n.low n.high e) in
-        subst (λ (x : ℕ). one_of qs x ≡ true) (between n.low q (low_le (range q q) n.low ends.1.0) (le_high (range q q) n.low ends.1.0)) ends.0
+    greatest : (p q h : ℕ) → max q (max p h) ≡ max p (max q h)
+    greatest p q h = omega arith
 
-    through : (l q h : ℕ) → l ≤ q → q ≤ h → l ≤ h
-    through l q h a b = omega arith
+    go : (a b : Bool) → at b q (at a p n) ≡ at a p (at b q n)
+    go true true = ends_same (least p q n.low) (greatest p q n.high)
+    go true false = refl
+    go false true = refl
+    go false false = refl
 
-    held : one_of qs q ≡ true → leb n.low n.high ≡ true
-    held o =
-        let w = narrowed_holds qs (range q q) q o (within_by (range q q) q (omega arith) (omega arith)) in
-        le-leb n.low n.high (through n.low q n.high (low_le n q w) (le_high n q w))
+-- the first of those listed may be taken before the others
+taken_before : (r : Range) (q : ℕ) (n : Range) (qs : List ℕ) → taken_all r (taken r q n) qs ≡ taken r q (taken_all r n qs)
+taken_before r q n [] = refl
+taken_before r q n (p ∷ qs) = ap (taken r p) (taken_before r q n qs) ∙ taken_any r q p (taken_all r n qs)
 
-pub listed_one : (qs : List ℕ) (q first last : ℕ) → numbered qs ≡ true → range first last ≡ narrowed qs (range q q) → leb first last ≡ one_of qs q
-listed_one qs q first last t n = ap (λ (n : Range). leb n.low n.high) n ∙ narrowed_one qs q t
-
--- ---- the loop over the list, from its last protocol to its first
-
-pub with_one : (r : Range) (q f l a b : ℕ) (t : Bool) → t ≡ within r q → t ≡ true → a ≡ min q f → b ≡ max q l → range a b ≡ cond (within r q) (range (min q f) (max q l)) (range f l)
-with_one r q f l a b t e u x y = ends_same x y ∙ sym (ap (λ (t : Bool). cond t (range (min q f) (max q l)) (range f l)) (sym e ∙ u))
-
-pub without : (r : Range) (q f l : ℕ) (t : Bool) → t ≡ within r q → t ≡ false → range f l ≡ cond (within r q) (range (min q f) (max q l)) (range f l)
-without r q f l t e u = sym (ap (λ (t : Bool). cond t (range (min q f) (max q l)) (range f l)) (sym e ∙ u))
-
-pub narrowed_more : (qs : List ℕ) (r n m : Range) (i q : ℕ) → 0 < i → i ≤ length qs → q ≡ get_or qs (i - 1) 0 → n ≡ narrowed (drop i qs) r
-    → m ≡ cond (within r q) (range (min q n.low) (max q n.high)) n → m ≡ narrowed (drop (i - 1) qs) r
-narrowed_more qs r n m i q l k e f g =
-    g
-    ∙ ap₂ (λ (q : ℕ) (n : Range). cond (within r q) (range (min q n.low) (max q n.high)) n) e f
-    ∙ ap (λ (ps : List ℕ). narrowed ps r) (sym (drop-cons qs (i - 1) 0 (short i (length qs) l k) ∙ ap (λ (j : ℕ). get_or qs (i - 1) 0 ∷ drop j qs) (back i l)))
-  where
-    short : (i n : ℕ) → 0 < i → i ≤ n → i - 1 < n
-    short i n l k = omega arith
-
-    back : (i : ℕ) → 0 < i → suc (i - 1) ≡ i
-    back i l = omega arith
-
-pub narrowed_all : (qs : List ℕ) (r n : Range) (i : ℕ) → i ≤ 0 → n ≡ narrowed (drop i qs) r → n ≡ narrowed qs r
-narrowed_all qs r n i l e = e ∙ ap (λ (j : ℕ). narrowed (drop j qs) r) (at_zero i l)
-  where
-    at_zero : (i : ℕ) → i ≤ 0 → i ≡ 0
-    at_zero i l = omega arith
+pub taken_more : (qs : List ℕ) (r n m w : Range) (i q : ℕ) → i < length qs → q ≡ get_or qs i 0 → m ≡ taken r q n
+    → taken_all r n (drop i qs) ≡ w → taken_all r m (drop (i + 1) qs) ≡ w
+taken_more qs r n m w i q l e g h =
+    ap (λ (m : Range). taken_all r m (drop (i + 1) qs)) (g ∙ ap (λ (q : ℕ). taken r q n) e)
+    ∙ taken_before r (get_or qs i 0) n (drop (i + 1) qs)
+    ∙ ap (taken_all r n) (sym (drop-cons qs i 0 l ∙ ap (λ (j : ℕ). get_or qs i 0 ∷ drop j qs) (sym (add-one i))))
+    ∙ h

@@ -1,18 +1,16 @@
 -- What the first refusal of a list of checks is, and what it shows that none refused.
 -- Assumes nothing.
+use Rattle.std.specs.Prelude.{None, Option, Some}
 use Prim.Native.Nat.{ℕ}
 use native.Mathlib.Omega.{arith}
 use mathlib.Core.Path.{◌≡◌, refl, sym, ◌∙◌, ap}
 use mathlib.Core.Bool.{Bool, true, false, cond}
 use mathlib.Core.List.{List, [], ◌∷◌, ◌++◌}
-use mathlib.Core.Option.{Option, none, some}
 use lib.Dec.{eqb}
 use lib.ListN.{get_or}
 use Rattle.policy.specs.declared.refusal.Refusal.{Refusal}
 use Rattle.policy.specs.declared.refusal.Refusal.TheVariants.{Missized, Version, Count, Crossed, Gap, Party, Vacant, Bare, Crowded, Conflict, Narrow, Ranking}
 use Rattle.policy.specs.declared.header.Header.{Header}
-use Rattle.policy.specs.declared.header.Found.{Found}
-use Rattle.policy.specs.declared.header.Found.TheVariants.{At, Nothing}
 use Rattle.policy.specs.Header.{header}
 use Rattle.policy.specs.Refusals.{Answer, refusal, accepted, is_accepted, refuse, refuse_at, first_of}
 use Rattle.policy.proofs.Bool.{clash}
@@ -27,8 +25,8 @@ goes_past b r rs a x e p = p ∙ sym (ap (λ (t : Bool). first_of (refuse t r �
 -- rows after rows
 pub first_of_append : (rs qs : List (Option Answer)) (a : Answer) → first_of (rs ++ qs) a ≡ first_of rs (first_of qs a)
 first_of_append [] qs a = refl
-first_of_append (some r ∷ rs) qs a = refl
-first_of_append (none ∷ rs) qs a = first_of_append rs qs a
+first_of_append (Some r ∷ rs) qs a = refl
+first_of_append (None ∷ rs) qs a = first_of_append rs qs a
 
 -- a refusal has a number of its own
 pub refusal_number : (r : Refusal) → (refusal r).number ≡ 0 → ⊥
@@ -52,8 +50,8 @@ refusal-clash r vs e = absurd (refusal_number r (ap (λ (a : Answer). a.number) 
 -- a row that refuses does so whatever comes after it
 pub refused_stays : (rs : List (Option Answer)) (vs : List ℕ) (r : Refusal) (a : Answer) → refusal r ≡ first_of rs (accepted vs) → refusal r ≡ first_of rs a
 refused_stays [] vs r a e = refusal-clash r vs e
-refused_stays (some x ∷ rs) vs r a e = e
-refused_stays (none ∷ rs) vs r a e = refused_stays rs vs r a e
+refused_stays (Some x ∷ rs) vs r a e = e
+refused_stays (None ∷ rs) vs r a e = refused_stays rs vs r a e
 
 -- what a check that did not refuse shows
 pub not_refused : (b : Bool) (r : Refusal) (rs : List (Option Answer)) (a : Answer) (vs : List ℕ) → accepted vs ≡ first_of (refuse b r ∷ rs) a → (b ≡ false) × (accepted vs ≡ first_of rs a)
@@ -65,14 +63,14 @@ not_refused false r rs a vs e = (refl, e)
 -- no check refuses
 abbrev pub Pass : List (Option Answer) → Type 0
 Pass [] = Unit {0}
-Pass (none ∷ rs) = Pass rs
-Pass (some a ∷ rs) = ⊥
+Pass (None ∷ rs) = Pass rs
+Pass (Some a ∷ rs) = ⊥
 
 -- what the checks answer, where they do, is no acceptance
 abbrev pub Refuse : List (Option Answer) → Type 0
 Refuse [] = Unit {0}
-Refuse (none ∷ rs) = Refuse rs
-Refuse (some a ∷ rs) = (is_accepted a ≡ false) × Refuse rs
+Refuse (None ∷ rs) = Refuse rs
+Refuse (Some a ∷ rs) = (is_accepted a ≡ false) × Refuse rs
 
 -- the refusal of an answer
 abbrev refusal_of : Answer → Refusal
@@ -140,32 +138,32 @@ pub refuse_refuses : (b : Bool) (r : Refusal) (rs : List (Option Answer)) → Re
 refuse_refuses true r rs f = (refusal_refuses r, f)
 refuse_refuses false r rs f = f
 
-pub at_refuses : (r : Header → Refusal) (c : Found) (rs : List (Option Answer)) → Refuse rs → Refuse (refuse_at r c ∷ rs)
-at_refuses r (At h) rs f = (refusal_refuses (r h), f)
-at_refuses r Nothing rs f = f
+pub at_refuses : (r : Header → Refusal) (c : Option Header) (rs : List (Option Answer)) → Refuse rs → Refuse (refuse_at r c ∷ rs)
+at_refuses r (Some h) rs f = (refusal_refuses (r h), f)
+at_refuses r None rs f = f
 
 -- an acceptance shows that none refused
 pub accepted_passes : (rs : List (Option Answer)) (a : Answer) → Refuse rs → is_accepted (first_of rs a) ≡ true → Pass rs
 accepted_passes [] a f e = tt
-accepted_passes (none ∷ rs) a f e = accepted_passes rs a f e
-accepted_passes (some x ∷ rs) a f e = clash e f.0
+accepted_passes (None ∷ rs) a f e = accepted_passes rs a f e
+accepted_passes (Some x ∷ rs) a f e = clash e f.0
 
 -- and then the answer is the one at the end
 pub passes : (rs : List (Option Answer)) (a : Answer) → Pass rs → first_of rs a ≡ a
 passes [] a p = refl
-passes (none ∷ rs) a p = passes rs a p
-passes (some x ∷ rs) a p = absurd p
+passes (None ∷ rs) a p = passes rs a p
+passes (Some x ∷ rs) a p = absurd p
 
 -- each check of a list that passes
 pub refuse_passes : (b : Bool) (r : Refusal) (rs : List (Option Answer)) → Pass (refuse b r ∷ rs) → (b ≡ false) × Pass rs
 refuse_passes true r rs p = absurd p
 refuse_passes false r rs p = (refl, p)
 
-pub at_passes : (r : Header → Refusal) (c : Found) (rs : List (Option Answer)) → Pass (refuse_at r c ∷ rs) → (c ≡ Nothing) × Pass rs
-at_passes r (At h) rs p = absurd p
-at_passes r Nothing rs p = (refl, p)
+pub at_passes : (r : Header → Refusal) (c : Option Header) (rs : List (Option Answer)) → Pass (refuse_at r c ∷ rs) → (c ≡ None) × Pass rs
+at_passes r (Some h) rs p = absurd p
+at_passes r None rs p = (refl, p)
 
 pub append_passes : (rs qs : List (Option Answer)) → Pass (rs ++ qs) → Pass rs × Pass qs
 append_passes [] qs p = (tt, p)
-append_passes (none ∷ rs) qs p = append_passes rs qs p
-append_passes (some a ∷ rs) qs p = absurd p
+append_passes (None ∷ rs) qs p = append_passes rs qs p
+append_passes (Some a ∷ rs) qs p = absurd p

@@ -1,14 +1,12 @@
 -- Findings: a header, or nothing; and the lesser of them.
-use Rattle.std.specs.Prelude.{Bool, cond}
+use Rattle.std.specs.Prelude.{Bool, cond, None, Option, Some}
 use Rattle.policy.specs.declared.header.Header.{Header}
-use Rattle.policy.specs.declared.header.Found.{Found}
-use Rattle.policy.specs.declared.header.Found.TheVariants.{At, Nothing}
 
 -- the first of two findings, else the second
-abbrev pub or_else : Found → Found → Found
-or_else (At h) s = At h
-or_else Nothing s = s
+abbrev pub or_else : Option Header → Option Header → Option Header
+or_else (Some h) s = Some h
+or_else None s = s
 
 -- h, if it has the property
-abbrev pub here : (Header → Bool) → Header → Found
-here P h = cond (P h) (At h) Nothing
+abbrev pub here : (Header → Bool) → Header → Option Header
+here P h = cond (P h) (Some h) None

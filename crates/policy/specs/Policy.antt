@@ -1,20 +1,18 @@
 -- Definitions 1 to 7 of 004, over lists of entries; a definition that speaks of every header is over a set hs of them.
 -- 01 counts entries from 0. 004's bottom, that no entry catches the header, is `uncaught`.
-use Rattle.std.specs.Prelude.{ℕ, ◌+◌, ◌≡◌, Bool, true, false, not, cond, List, [], ◌∷◌}
+use Rattle.std.specs.Prelude.{ℕ, ◌+◌, ◌≡◌, Bool, true, false, not, cond, List, [], ◌∷◌, None, Option, Some}
 use Rattle.policy.specs.declared.header.Header.{Header}
 use Rattle.policy.specs.declared.entry.Entry.{Entry}
-use Rattle.policy.specs.declared.entry.Caught.{Caught}
-use Rattle.policy.specs.declared.entry.Caught.TheVariants.{By, Uncaught}
 use Rattle.policy.specs.Header.{Headers, among}
 use Rattle.policy.specs.Actions.{subset}
 use Rattle.policy.specs.Entry.{matches}
 
 -- Definition 3: the entry that catches the header is the first that matches it; entries are numbered from i
-abbrev pub catcher_from : ℕ → List Entry → Header → Caught
-catcher_from i [] h = Uncaught
-catcher_from i (e ∷ p) h = cond (matches e h) (By i) (catcher_from (i + 1) p h)
+abbrev pub catcher_from : ℕ → List Entry → Header → Option ℕ
+catcher_from i [] h = None
+catcher_from i (e ∷ p) h = cond (matches e h) (Some i) (catcher_from (i + 1) p h)
 
-abbrev pub catcher : List Entry → Header → Caught
+abbrev pub catcher : List Entry → Header → Option ℕ
 catcher p h = catcher_from 0 p h
 
 -- Definition 4: what a list allows a header is the set of the entry that catches it

@@ -1,9 +1,6 @@
 -- 01, "What is turned down", and the refusals that 02 adds: the table, and answers in its terms.
-use Rattle.std.specs.Prelude.{ℕ, Bool, true, false, List, [], ◌∷◌, eqb}
-use Rattle.std.proofs.Math.Option.{Option, none, some}
+use Rattle.std.specs.Prelude.{ℕ, Bool, true, false, List, [], ◌∷◌, eqb, None, Option, Some}
 use Rattle.policy.specs.declared.header.Header.{Header}
-use Rattle.policy.specs.declared.header.Found.{Found}
-use Rattle.policy.specs.declared.header.Found.TheVariants.{At, Nothing}
 use Rattle.policy.specs.declared.refusal.Refusal.{Refusal}
 use Rattle.policy.specs.declared.refusal.Refusal.TheVariants.{Missized, Version, Count, Crossed, Gap, Party, Vacant, Bare, Crowded, Conflict, Narrow, Ranking}
 
@@ -40,16 +37,16 @@ is_accepted a = eqb a.number 0
 
 -- a check refuses where its condition holds
 abbrev pub refuse : Bool → Refusal → Option Answer
-refuse true r = some (refusal r)
-refuse false r = none
+refuse true r = Some (refusal r)
+refuse false r = None
 
 -- a check refuses where there is a header, and names it
-abbrev pub refuse_at : (Header → Refusal) → Found → Option Answer
-refuse_at r (At h) = some (refusal (r h))
-refuse_at r Nothing = none
+abbrev pub refuse_at : (Header → Refusal) → Option Header → Option Answer
+refuse_at r (Some h) = Some (refusal (r h))
+refuse_at r None = None
 
 -- each refusal is returned when its condition holds and none earlier does; where none holds, the answer is a
 abbrev pub first_of : {A : Type 0} → List (Option A) → A → A
 first_of [] a = a
-first_of (some r ∷ rs) a = r
-first_of (none ∷ rs) a = first_of rs a
+first_of (Some r ∷ rs) a = r
+first_of (None ∷ rs) a = first_of rs a

@@ -12,7 +12,7 @@ use crate::sides::{ROW, SIDES, is_inside, row_sides};
 
 // Laid out as in C, which may lend a table of them.
 #[repr(C)]
-#[derive(Clone, Copy)]
+#[derive(Clone, Copy, Debug, PartialEq, Eq)]
 pub struct Entry {
     pub local_low: u32,
     pub local_high: u32,
@@ -29,14 +29,7 @@ pub struct Entry {
     pub actions: u16,
 }
 
-// The number of the entry that catches a header, if one does.
-#[derive(Clone, Copy)]
-pub enum Caught {
-    By(usize),
-    Uncaught,
-}
-
-// The row of e.
+// The row of e. Functions and no `From`, since two arrays of numbers are made of an entry, and their types do not say which has what.
 pub fn row_of(e: Entry) -> [u32; ROW]
     ensures { result ≡ numbers_of e }
 {

@@ -6,13 +6,13 @@ ghost use Rattle.policy.specs.Header.{among, headers};
 ghost use Rattle.policy.specs.steps.Narrowed.{narrowed};
 
 use crate::header::Header;
-use crate::sides::{greater, is_between, lesser};
+use crate::sides::is_between;
 
 // The protocols that have ports: nothing else in the code knows them.
 const WITH_PORTS: [u32; 5] = [6, 17, 33, 132, 136];
 
-// Protocols from the first to the last. There are none, if the last is before the first.
-#[derive(Clone, Copy)]
+// Protocols from the first to the last. There are none, if the last is before the first: no Option, since the clause of `protocols_with_ports` has a crossed range for none.
+#[derive(Clone, Copy, Debug, PartialEq, Eq)]
 pub struct Protocols {
     pub first: u32,
     pub last: u32,
@@ -24,8 +24,8 @@ fn with_protocol(r: Protocols, q: u32, low: u32, high: u32) -> Protocols
 {
     if is_between(low, q, high) {
         return Protocols {
-            first: lesser(q, r.first),
-            last: greater(q, r.last),
+            first: q.min(r.first),
+            last: q.max(r.last),
         };
     }
     r
@@ -39,10 +39,8 @@ pub fn protocols_with_ports(low: u32, high: u32) -> Protocols
         first: 256,
         last: 0,
     };
-    let mut i = WITH_PORTS.len();
-    while 0 < i {
-        i -= 1;
-        r = with_protocol(r, WITH_PORTS[i], low, high);
+    for q in WITH_PORTS {
+        r = with_protocol(r, q, low, high);
     }
     r
 }

@@ -9,31 +9,14 @@ const ACTION_COUNT: u8 = 16;
 fn are_actions(numbers: &[u8]) -> bool
     ensures { result ≡ all_below action_count numbers.now }
 {
-    let mut i: usize = 0;
-    while i < numbers.len() {
-        if ACTION_COUNT <= numbers[i] {
-            return false;
-        }
-        i += 1;
-    }
-    true
+    numbers.iter().all(|&k| k < ACTION_COUNT)
 }
 
 // How often a number stands among the bytes.
 fn times_in(k: u8, numbers: &[u8]) -> usize
     ensures { result ≡ times k numbers.now }
 {
-    let mut n: usize = 0;
-    let mut i: usize = 0;
-    while i < numbers.len() {
-        let j = numbers[i];
-        i += 1;
-        if j != k {
-            continue;
-        }
-        n += 1;
-    }
-    n
+    numbers.iter().filter(|&&j| j == k).count()
 }
 
 // Whether the bytes are the numbers of all actions, once each.
@@ -46,28 +29,26 @@ pub fn is_ranking(numbers: &[u8]) -> bool
     if !are_actions(numbers) {
         return false;
     }
-    let mut k = ACTION_COUNT;
-    while 0 < k {
-        if times_in(k - 1, numbers) != 1 {
-            return false;
-        }
-        k -= 1;
-    }
-    true
+    (0..ACTION_COUNT).all(|k| times_in(k, numbers) == 1)
 }
 
-// The best-ranked action of a set, alone.
-pub fn best_of(ranking: &[u8], a: u16) -> u16
-    requires { is_ranking ranking.now ≡ true }
-    ensures { result ≡ best ranking.now a }
-{
-    let mut i: usize = 0;
-    while i < ranking.len() {
-        let k = ranking[i];
-        if (a >> k) % 2 == 1 {
-            return 1u16 << k;
+// The numbers of all actions, once each, the best first.
+#[derive(Clone, Copy)]
+pub struct Ranking<'a> {
+    pub numbers: &'a [u8],
+    ghost all: { is_ranking numbers.now ≡ true },
+}
+
+impl Ranking<'_> {
+    // The best-ranked action of a set, alone.
+    pub fn best_of(self, a: u16) -> u16
+        ensures { result ≡ best self.entry.numbers.now a }
+    {
+        for &k in self.numbers {
+            if (a >> k) % 2 == 1 {
+                return 1u16 << k;
+            }
         }
-        i += 1;
+        0
     }
-    0
 }

@@ -24,22 +24,24 @@ pub enum Refusal {
     Ranking,
 }
 
-// The number of a refusal.
-pub fn number_of(r: Refusal) -> u8
-    ensures { result ≡ (refusal r).number }
-{
-    match r {
-        Refusal::Missized => 1,
-        Refusal::Version => 2,
-        Refusal::Count => 3,
-        Refusal::Crossed(_) => 4,
-        Refusal::Gap(_) => 5,
-        Refusal::Party => 6,
-        Refusal::Vacant => 7,
-        Refusal::Bare => 8,
-        Refusal::Crowded => 9,
-        Refusal::Conflict(_) => 10,
-        Refusal::Narrow(_) => 11,
-        Refusal::Ranking => 12,
+impl Refusal {
+    // The number of a refusal.
+    pub fn number(self) -> u8
+        ensures { result ≡ (refusal self).number }
+    {
+        match self {
+            Refusal::Missized => 1,
+            Refusal::Version => 2,
+            Refusal::Count => 3,
+            Refusal::Crossed(_) => 4,
+            Refusal::Gap(_) => 5,
+            Refusal::Party => 6,
+            Refusal::Vacant => 7,
+            Refusal::Bare => 8,
+            Refusal::Crowded => 9,
+            Refusal::Conflict(_) => 10,
+            Refusal::Narrow(_) => 11,
+            Refusal::Ranking => 12,
+        }
     }
 }

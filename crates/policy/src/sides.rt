@@ -1,6 +1,5 @@
 // Rows and boxes: their sides, field by field.
-ghost use Rattle.std.specs.Prelude.{◌≡◌, ◌&&◌, ◌+◌, ◌≤◌, ◌<◌, min, max, length, leb};
-ghost use Rattle.policy.specs.Row.{precedes};
+ghost use Rattle.std.specs.Prelude.{◌≡◌, ◌&&◌, ◌+◌, ◌≤◌, ◌<◌, length, leb};
 ghost use Rattle.policy.specs.Box.{inside, proper, meet};
 ghost use Rattle.policy.specs.steps.Boxes.{same_box};
 ghost use Rattle.policy.specs.Header.{arity};
@@ -51,67 +50,36 @@ pub fn actions_at(s: &[u32], at: usize) -> u32
     s[at + SIDES]
 }
 
-// The greater and the lesser of two numbers.
-pub fn greater(a: u32, b: u32) -> u32
-    ensures { result ≡ max a b }
-{
-    if a < b { b } else { a }
-}
-
-pub fn lesser(a: u32, b: u32) -> u32
-    ensures { result ≡ min a b }
-{
-    if a < b { a } else { b }
-}
-
 // Whether x is from l to h. It is one comparison, since two would each be guessed wrong about as often as not.
 pub fn is_between(l: u32, x: u32, h: u32) -> bool
     ensures { result ≡ (leb l x && leb x h) }
 {
-    greater(l, x) == lesser(x, h)
+    l.max(x) == x.min(h)
 }
 
 // Whether no side of b is crossed.
 pub fn is_proper(b: &[u32; SIDES]) -> bool
     ensures { result ≡ proper arity (box_of b.now 0) }
 {
-    let mut f: usize = 0;
-    while f < FIELDS {
+    for f in 0..FIELDS {
         if high(b, f) < low(b, f) {
             return false;
         }
-        f += 1;
     }
     true
-}
-
-// Whether the numbers x come before y: the first that differs decides.
-pub fn precede(x: &[u32; FIELDS], y: &[u32; FIELDS]) -> bool
-    ensures { result ≡ precedes arity (numbers_in x.now) (numbers_in y.now) }
-{
-    let mut f: usize = 0;
-    while f < FIELDS {
-        if x[f] != y[f] {
-            return x[f] < y[f];
-        }
-        f += 1;
-    }
-    false
 }
 
 // Whether the numbers x lie in b. They are looked at as far as the first that does not.
 pub fn is_inside(b: &[u32; SIDES], x: &[u32; FIELDS]) -> bool
     ensures { result ≡ inside arity (box_of b.now 0) (numbers_in x.now) }
 {
-    let mut f: usize = 0;
-    while f < FIELDS {
+    for f in 0..FIELDS {
         if x[f] < low(b, f) {
             return false;
         }
         if high(b, f) < x[f] {
             return false;
         }
-        f += 1;
     }
     true
 }
@@ -120,17 +88,7 @@ pub fn is_inside(b: &[u32; SIDES], x: &[u32; FIELDS]) -> bool
 pub fn is_same(a: &[u32; SIDES], b: &[u32; SIDES]) -> bool
     ensures { result ≡ same_box arity (box_of a.now 0) (box_of b.now 0) }
 {
-    let mut f: usize = 0;
-    while f < FIELDS {
-        if low(a, f) != low(b, f) {
-            return false;
-        }
-        if high(a, f) != high(b, f) {
-            return false;
-        }
-        f += 1;
-    }
-    true
+    a == b
 }
 
 // Whether b and the row at a place overlap.
@@ -138,12 +96,10 @@ pub fn meets_row(s: &[u32], at: usize, b: &[u32; SIDES]) -> bool
     requires { at + sides ≤ length s.now }
     ensures { result ≡ proper arity (meet arity (box_of b.now 0) (box_of s.now at)) }
 {
-    let mut f: usize = 0;
-    while f < FIELDS {
-        if lesser(high(b, f), high_at(s, at, f)) < greater(low(b, f), low_at(s, at, f)) {
+    for f in 0..FIELDS {
+        if high(b, f).min(high_at(s, at, f)) < low(b, f).max(low_at(s, at, f)) {
             return false;
         }
-        f += 1;
     }
     true
 }
@@ -154,11 +110,9 @@ pub fn part_in_row(s: &[u32], at: usize, b: &[u32; SIDES]) -> [u32; SIDES]
     ensures { box_of result 0 ≡ meet arity (box_of b.now 0) (box_of s.now at) }
 {
     let mut r = [0u32; SIDES];
-    let mut f: usize = 0;
-    while f < FIELDS {
-        r[2 * f] = greater(low(b, f), low_at(s, at, f));
-        r[2 * f + 1] = lesser(high(b, f), high_at(s, at, f));
-        f += 1;
+    for f in 0..FIELDS {
+        r[2 * f] = low(b, f).max(low_at(s, at, f));
+        r[2 * f + 1] = high(b, f).min(high_at(s, at, f));
     }
     r
 }
@@ -169,11 +123,9 @@ pub fn row_sides(s: &[u32], at: usize) -> [u32; SIDES]
     ensures { box_of result 0 ≡ box_of s.now at }
 {
     let mut r = [0u32; SIDES];
-    let mut f: usize = 0;
-    while f < FIELDS {
+    for f in 0..FIELDS {
         r[2 * f] = low_at(s, at, f);
         r[2 * f + 1] = high_at(s, at, f);
-        f += 1;
     }
     r
 }

@@ -31,13 +31,13 @@ fn write_report<W: Write>(writer: &mut W, input: &[u8], text: &[u8]) -> io::Resu
     ensures ok { OnOk result (Appends (W.contents writer.old) (W.contents writer.new) (report_of input.now)) }
     ensures err { OnErr result ((n : ℕ) × Appends (W.contents writer.old) (W.contents writer.new) (take n (report_of input.now))) }
 {
-    let mut at = 0;
-    while at < text.len() {
-        let n = write_some(writer, &text[at..])?;
+    let mut left = text;
+    while !left.is_empty() {
+        let n = write_some(writer, left)?;
         if n == 0 {
             return Err(io::Error::from(ErrorKind::WriteZero));
         }
-        at += n;
+        left = &left[n..];
     }
     Ok(())
 }

@@ -7,7 +7,7 @@ use native.Mathlib.Numerals.{add-one}
 use mathlib.Core.Path.{◌≡◌, refl, sym, ◌∙◌, ap, ap₂, subst}
 use mathlib.Core.List.{List, [], ◌∷◌, ◌++◌, append_assoc}
 use lib.ListN.{length, take, drop, get_or, set, length-append, length-drop, take-append-drop}
-use lib.Seq.{length-take-le, take_at, drop_at, take-take, get_or-take, take-suc-set, take-set-lt, set_at, set-get_or, paste, slice}
+use lib.Seq.{length-take-le, take_all, take_at, drop_at, take-take, get_or-take, take-suc-set, take-set-lt, set_at, set-get_or, paste, slice}
 use Rattle.policy.specs.declared.entry.Entry.{Entry}
 use Rattle.policy.specs.Sides.{box_of}
 use Rattle.policy.specs.steps.Rows.{row_size, row_at, rows_from, rows_in, numbers_of}
@@ -18,8 +18,8 @@ use Rattle.region.proofs.Judging.{firsts_in}
 -- ---- the rows of a part, as it is lent
 
 module _ (s : List ℕ) where
-  pub lent_front : (n : ℕ) → row_size * n ≤ length s → rows_in (take (row_size * n - 0) s) ≡ rows_from s 0 n
-  lent_front n l = firsts_in s n (row_size * n - 0) (omega arith) (omega arith)
+  pub lent_front : (n : ℕ) → row_size * n ≤ length s → rows_in (take (row_size * n) s) ≡ rows_from s 0 n
+  lent_front n l = firsts_in s n (row_size * n) (omega arith) (omega arith)
 
   rows_drop : (a n : ℕ) → a ≤ length s → rows_from (drop a s) 0 n ≡ rows_from s a n
   rows_drop a n l =
@@ -146,5 +146,7 @@ pub beside_more : (s r : List ℕ) (es : List Entry) (i : ℕ) (d : Entry) → B
     → Beside r es (i + 1)
 beside_more s r es i d b m l q = beside_next s es i b i (get_or es i d) r l q refl m ∙ ap (take (i + 1)) (set-get_or es i d)
 
-pub beside_all : (s : List ℕ) (es : List Entry) (i n : ℕ) → Beside s es i → i ≤ n → n ≤ i → Beside s es n
-beside_all s es i n b l m = let e : i ≡ n = omega arith in subst (Beside s es) e b
+pub beside_all : (s : List ℕ) (es : List Entry) (i : ℕ) → Beside s es i → i ≤ length es → length es ≤ i → rows_from s 0 (length es) ≡ es
+beside_all s es i b l m =
+    let e : i ≡ length es = omega arith in
+    subst (Beside s es) e b ∙ take_all (length es) es (omega arith)

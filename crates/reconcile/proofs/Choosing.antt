@@ -1,75 +1,42 @@
--- Installing on the array: the entries that are left are moved to the front, each with its best-ranked action alone.
+-- Installing on the entries: each keeps its best-ranked action alone, one after the other.
 -- Assumes nothing.
-use Prim.Native.Nat.{ℕ, suc, ◌+◌, ◌-◌, ◌<◌, ◌≤◌}
+use Prim.Native.Nat.{ℕ, suc, ◌+◌, ◌<◌, ◌≤◌}
 use native.Mathlib.Omega.{arith}
-use native.Mathlib.Nat.{add-zero}
 use native.Mathlib.Numerals.{add-one}
-use mathlib.Core.Path.{◌≡◌, refl, sym, ◌∙◌, ap, ap₂, subst}
-use mathlib.Core.List.{List, [], ◌∷◌, ◌++◌, map}
-use lib.ListN.{length, get_or, take, drop, set, length-set}
-use lib.Seq.{slice, slice_empty, take-suc, take-suc-set, drop-set-lt, drop-append-le, drop-drop, get_or-drop, length-take-le}
+use mathlib.Core.Path.{◌≡◌, sym, ◌∙◌, ap, ap₂}
+use mathlib.Core.List.{List, [], ◌∷◌, ◌++◌, map, map-append, append_assoc, append-nil}
+use lib.ListN.{length, get_or, take, drop, set, length-map, drop_of_length-le}
+use lib.Seq.{set_at, take-suc, drop-cons, length-take-le, take_all, get_or-append_seam}
 use Rattle.policy.specs.declared.entry.Entry.{Entry}
 use Rattle.reconcile.specs.Installing.{with_best}
 use Rattle.wire.proofs.Lists.{zero_entry}
 
--- the entries of ds from place first up to i have been moved, and the others stand as at the start
-pub record Moved (ranking : List ℕ) (ds es : List Entry) (first i : ℕ) : Type 0 where
-  pub front : take (i - first) es ≡ map (with_best ranking) (slice first i ds)
-  pub behind : drop i es ≡ drop i ds
-  pub from : first ≤ i
-  pub size : length es ≡ length ds
+-- the first i entries of ds have been chosen, and the others stand as at the start
+abbrev pub Chosen : List ℕ → List Entry → List Entry → ℕ → Type 0
+Chosen ranking ds es i = es ≡ map (with_best ranking) (take i ds) ++ drop i ds
 
-pub moved_none : (ranking : List ℕ) (ds : List Entry) (first : ℕ) → Moved ranking ds ds first first
-moved_none ranking ds first = record {
-  front = ap (λ (n : ℕ). take n ds) (none first) ∙ ap (map (with_best ranking)) (sym (slice_empty first ds));
-  behind = refl;
-  from = omega arith;
-  size = refl;
-}
-  where
-    none : (n : ℕ) → n - n ≡ 0
-    none n = omega arith
+module _ (ranking : List ℕ) (ds es : List Entry) (i : ℕ) (m : Chosen ranking ds es i) (l : i < length ds) where
+  abbrev front : List Entry
+  front = map (with_best ranking) (take i ds)
 
-module _ (ranking : List ℕ) (ds es : List Entry) (first i : ℕ) (m : Moved ranking ds es first i) (l : i < length ds) where
-  entry_same : get_or es i zero_entry ≡ get_or ds i zero_entry
-  entry_same =
-      ap (λ (k : ℕ). get_or es k zero_entry) (sym (add-zero i))
-      ∙ sym (get_or-drop i es 0 zero_entry)
-      ∙ ap (λ (p : List Entry). get_or p 0 zero_entry) m.behind
-      ∙ get_or-drop i ds 0 zero_entry
-      ∙ ap (λ (k : ℕ). get_or ds k zero_entry) (add-zero i)
+  size : length front ≡ i
+  size = length-map (take i ds) (with_best ranking) ∙ length-take-le i ds (omega arith)
 
-  pub moved_more : (e : Entry) → e ≡ with_best ranking (get_or es i zero_entry) → Moved ranking ds (set es (i - first) e) first (i + 1)
-  moved_more e q = record {
-    front =
-        ap (λ (n : ℕ). take n (set es (i - first) e)) (up i first m.from)
-        ∙ take-suc-set es (i - first) e (omega (arith, m.size))
-        ∙ ap₂ (λ (p : List Entry) (d : Entry). p ++ d ∷ []) m.front (q ∙ ap (with_best ranking) entry_same)
-        ∙ sym (ap (map (with_best ranking)) (slice_snoc first i ds m.from l) ∙ map_snoc (slice first i ds) (get_or ds i zero_entry));
-    behind = drop-set-lt (i + 1) es (i - first) e (omega arith) ∙ later es ∙ ap (drop 1) m.behind ∙ sym (later ds);
-    from = omega (arith, m.from);
-    size = length-set es (i - first) e ∙ m.size;
-  }
-    where
-      up : (i first : ℕ) → first ≤ i → i + 1 - first ≡ suc (i - first)
-      up i first l = omega arith
+  split : es ≡ front ++ get_or ds i zero_entry ∷ drop (suc i) ds
+  split = m ∙ ap (front ++◌) (drop-cons ds i zero_entry l)
 
-      slice_snoc : (first i : ℕ) (ds : List Entry) → first ≤ i → i < length ds → slice first (i + 1) ds ≡ slice first i ds ++ get_or ds i zero_entry ∷ []
-      slice_snoc first i ds l n =
-          ap (drop first) (ap (λ (k : ℕ). take k ds) (add-one i) ∙ take-suc ds i zero_entry n)
-          ∙ drop-append-le first (take i ds) (get_or ds i zero_entry ∷ []) (omega (arith, length-take-le i ds (omega arith)))
+  there : get_or es i zero_entry ≡ get_or ds i zero_entry
+  there = ap₂ (λ (p : List Entry) (k : ℕ). get_or p k zero_entry) split (sym size) ∙ get_or-append_seam front (get_or ds i zero_entry) (drop (suc i) ds) zero_entry
 
-      map_snoc : (p : List Entry) (d : Entry) → map (with_best ranking) (p ++ d ∷ []) ≡ map (with_best ranking) p ++ with_best ranking d ∷ []
-      map_snoc [] d = refl
-      map_snoc (c ∷ p) d = ap (with_best ranking c ∷◌) (map_snoc p d)
+  pub chosen_more : (e : Entry) → e ≡ with_best ranking (get_or es i zero_entry) → Chosen ranking ds (set es i e) (i + 1)
+  chosen_more e q =
+      ap (λ (p : List Entry). set p i e) split
+      ∙ set_at front (get_or ds i zero_entry) (drop (suc i) ds) e i size
+      ∙ sym (append_assoc front (e ∷ []) (drop (suc i) ds))
+      ∙ ap₂ ◌++◌
+      (ap (λ (d : Entry). front ++ d ∷ []) (q ∙ ap (with_best ranking) there) ∙ sym (map-append (with_best ranking) (take i ds) (get_or ds i zero_entry ∷ [])) ∙ ap (map (with_best ranking)) (sym (ap (λ (k : ℕ). take k ds) (add-one i) ∙ take-suc ds i zero_entry l)))
+      (ap (λ (k : ℕ). drop k ds) (sym (add-one i)))
 
-      later : (p : List Entry) → drop (i + 1) p ≡ drop 1 (drop i p)
-      later p = sym (drop-drop 1 i p)
-
-pub moved_all : (ranking : List ℕ) (ds es : List Entry) (first i end : ℕ) → Moved ranking ds es first i → i ≤ end → end ≤ i
-    → take (end - first) es ≡ map (with_best ranking) (slice first end ds)
-moved_all ranking ds es first i end m l k =
-    subst (λ (n : ℕ). take (n - first) es ≡ map (with_best ranking) (slice first n ds)) (same i end l k) m.front
-  where
-    same : (i end : ℕ) → i ≤ end → end ≤ i → i ≡ end
-    same i end l k = omega arith
+pub chosen_all : (ranking : List ℕ) (ds es : List Entry) (i : ℕ) → Chosen ranking ds es i → length ds ≤ i → es ≡ map (with_best ranking) ds
+chosen_all ranking ds es i m l =
+    m ∙ ap₂ (λ (p q : List Entry). map (with_best ranking) p ++ q) (take_all i ds l) (drop_of_length-le ds l) ∙ append-nil (map (with_best ranking) ds)

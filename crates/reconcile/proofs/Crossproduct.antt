@@ -1,5 +1,6 @@
 -- Ordered crossproducts of any number of policies: Lemmas 19 and 25 of 004, and what they allow.
 -- Assumes nothing.
+use Rattle.std.specs.Prelude.{None, Option, Some}
 use Prim.Native.Nat.{ℕ, zero, suc, ◌+◌, ◌<◌, ◌≤◌}
 use native.Mathlib.Omega.{arith}
 use mathlib.Core.Path.{◌≡◌, refl, sym, ◌∙◌, ap, subst}
@@ -11,8 +12,6 @@ use lib.ListN.{length, get_or, length-append}
 use lib.Seq.{get_or_at}
 use Rattle.policy.specs.declared.header.Header.{Header}
 use Rattle.policy.specs.declared.entry.Entry.{Entry}
-use Rattle.policy.specs.declared.entry.Caught.{Caught}
-use Rattle.policy.specs.declared.entry.Caught.TheVariants.{By, Uncaught}
 use Rattle.policy.specs.Header.{Headers}
 use Rattle.policy.specs.Entry.{matches, both}
 use Rattle.policy.specs.Policy.{catcher_from, catcher, Allowed, actions, uncaught, allowed, is_caught, missed, Covering}
@@ -27,20 +26,20 @@ use Rattle.reconcile.proofs.Crossing.{both_is}
 
 -- ---- one policy
 
-same_number : (n i : ℕ) → By n ≡ By i → n ≡ i
+same_number : (n i : ℕ) → Some n ≡ Some i → n ≡ i
 same_number n i q = cc
 
 -- the entry that catches is the first that matches
-catcher_first : (n : ℕ) (p : List Entry) (h : Header) (i k : ℕ) → catcher_from n p h ≡ By i → k < length p → matches (get_or p k empty_entry) h ≡ true → i ≤ n + k
+catcher_first : (n : ℕ) (p : List Entry) (h : Header) (i k : ℕ) → catcher_from n p h ≡ Some i → k < length p → matches (get_or p k empty_entry) h ≡ true → i ≤ n + k
 catcher_first n [] h i k q l m = absurd (omega arith)
 catcher_first n (e ∷ p) h i zero q l m = go (matches e h) m q
   where
-    go : (b : Bool) → b ≡ true → cond b (By n) (catcher_from (n + 1) p h) ≡ By i → i ≤ n + 0
+    go : (b : Bool) → b ≡ true → cond b (Some n) (catcher_from (n + 1) p h) ≡ Some i → i ≤ n + 0
     go true m q = omega (arith, same_number n i q)
     go false m q = clash m refl
 catcher_first n (e ∷ p) h i (suc k) q l m = go (matches e h) q (λ r. catcher_first (n + 1) p h i k r (omega arith) m)
   where
-    go : (b : Bool) → cond b (By n) (catcher_from (n + 1) p h) ≡ By i → (catcher_from (n + 1) p h ≡ By i → i ≤ n + 1 + k) → i ≤ n + suc k
+    go : (b : Bool) → cond b (Some n) (catcher_from (n + 1) p h) ≡ Some i → (catcher_from (n + 1) p h ≡ Some i → i ≤ n + 1 + k) → i ≤ n + suc k
     go true q ih = omega (arith, same_number n i q)
     go false q ih = omega (arith, ih q)
 
@@ -50,7 +49,7 @@ record CatchesAt (p : List Entry) (h : Header) (i : ℕ) : Type 0 where
   pub matched : matches (get_or p i empty_entry) h ≡ true
   pub allows : allowed p h ≡ actions (get_or p i empty_entry).actions
 
-catcher_at : (p : List Entry) (h : Header) (i : ℕ) → catcher p h ≡ By i → CatchesAt p h i
+catcher_at : (p : List Entry) (h : Header) (i : ℕ) → catcher p h ≡ Some i → CatchesAt p h i
 catcher_at p h i q = record {
   below = omega (arith, c.1, c.2.place, ap length c.2.whole, length-append c.2.front (c.2.entry ∷ c.2.back));
   matched = ap (λ (e : Entry). matches e h) is ∙ c.2.matched;
@@ -163,10 +162,10 @@ cases (p ∷ ps) h = go (catcher p h) refl (cases ps h)
     later f [] v m = v
     later f (k ∷ t) v m = f t v.1 m.1
 
-    go : (r : Caught) → catcher p h ≡ r → Case ps h → Case (p ∷ ps) h
-    go (By i) q (each t c) = each (i ∷ t) (q, c)
-    go (By i) q (lacks n f) = lacks (λ a. n (in_both a (allowed p h))) (later f)
-    go Uncaught q d =
+    go : (r : Option ℕ) → catcher p h ≡ r → Case ps h → Case (p ∷ ps) h
+    go (Some i) q (each t c) = each (i ∷ t) (q, c)
+    go (Some i) q (lacks n f) = lacks (λ a. n (in_both a (allowed p h))) (later f)
+    go None q d =
         let u = uncaught_by 0 p h q in
         lacks (λ a. ap (λ (x : Allowed). common_with (in_both a x) ps h) (missed_uncaught (allowed p h) u) ∙ ap (λ (x : Allowed). common_with x ps h) (both_uncaught a) ∙ with_uncaught ps h)
         (first u)
@@ -184,7 +183,7 @@ lacks_common p ps h f = ap (λ (a : Allowed). common_with a ps h) (sym (both_sel
 module _ (f : Tuple → Entry) (h : Header) (t : Tuple) where
   record First (ts : List Tuple) (n : ℕ) : Type 0 where
     pub place : ℕ
-    pub catches : catcher_from n (map f ts) h ≡ By (n + place)
+    pub catches : catcher_from n (map f ts) h ≡ Some (n + place)
     pub there : get_or ts place [] ≡ t
     pub allows : allowed (map f ts) h ≡ actions (f t).actions
 
@@ -202,7 +201,7 @@ module _ (f : Tuple → Entry) (h : Header) (t : Tuple) where
       go : (In t ts → First ts (n + 1)) → (b : Bool) → matches (f s) h ≡ b → (t ≡ s) ⊎ In t ts → First (s ∷ ts) n
       go ih true q (inl e) = record {
         place = 0;
-        catches = ap (λ (b : Bool). cond b (By n) (catcher_from (n + 1) (map f ts) h)) q ∙ ap By (plain n);
+        catches = ap (λ (b : Bool). cond b (Some n) (catcher_from (n + 1) (map f ts) h)) q ∙ ap Some (plain n);
         there = sym e;
         allows = ap (λ (b : Bool). cond b (actions (f s).actions) (allowed (map f ts) h)) q ∙ ap (λ (r : Tuple). actions (f r).actions) (sym e);
       }
@@ -212,17 +211,17 @@ module _ (f : Tuple → Entry) (h : Header) (t : Tuple) where
           let r = ih j in
           record {
             place = suc r.place;
-            catches = ap (λ (b : Bool). cond b (By n) (catcher_from (n + 1) (map f ts) h)) q ∙ r.catches ∙ ap By (up n r.place);
+            catches = ap (λ (b : Bool). cond b (Some n) (catcher_from (n + 1) (map f ts) h)) q ∙ r.catches ∙ ap Some (up n r.place);
             there = r.there;
             allows = ap (λ (b : Bool). cond b (actions (f s).actions) (allowed (map f ts) h)) q ∙ r.allows;
           }
 
 none_in : (f : Tuple → Entry) (h : Header) (ts : List Tuple) (n : ℕ) → ((s : Tuple) → In s ts → matches (f s) h ≡ false)
-    → (catcher_from n (map f ts) h ≡ Uncaught) × (allowed (map f ts) h ≡ uncaught)
+    → (catcher_from n (map f ts) h ≡ None) × (allowed (map f ts) h ≡ uncaught)
 none_in f h [] n g = (refl, refl)
 none_in f h (s ∷ ts) n g =
     let r = none_in f h ts (n + 1) (λ r i. g r (inr i)) in (
-      ap (λ (b : Bool). cond b (By n) (catcher_from (n + 1) (map f ts) h)) (g s (inl refl)) ∙ r.0,
+      ap (λ (b : Bool). cond b (Some n) (catcher_from (n + 1) (map f ts) h)) (g s (inl refl)) ∙ r.0,
       ap (λ (b : Bool). cond b (actions (f s).actions) (allowed (map f ts) h)) (g s (inl refl)) ∙ r.1,
     )
 
@@ -246,13 +245,13 @@ module _ (p : List Entry) (ps : List (List Entry)) (ts : List Tuple) (x : Ordere
       (λ s i m. let v = x.crossproduct.only s i in catching_precedes (p ∷ ps) t s h c v (of_each (p ∷ ps) s h v m))
 
   at_none : (h : Header) → ((t : Tuple) → IsTuple (p ∷ ps) t → EachMatches (p ∷ ps) t h → ⊥)
-      → (catcher (entries_of (p ∷ ps) ts) h ≡ Uncaught) × (allowed (entries_of (p ∷ ps) ts) h ≡ uncaught)
+      → (catcher (entries_of (p ∷ ps) ts) h ≡ None) × (allowed (entries_of (p ∷ ps) ts) h ≡ uncaught)
   at_none h f = none_in (entry_of (p ∷ ps)) h ts 0 λ s i.
       let v = x.crossproduct.only s i in
       is_false (matches (entry_of (p ∷ ps) s) h) λ m. f s v (of_each (p ∷ ps) s h v m)
 
   -- Lemma 25: the entries of the tuple whose entry catches the header catch it in their policies
-  pub lemma25 : (h : Header) (n : ℕ) → catcher (entries_of (p ∷ ps) ts) h ≡ By n → EachCatches (p ∷ ps) (get_or ts n []) h
+  pub lemma25 : (h : Header) (n : ℕ) → catcher (entries_of (p ∷ ps) ts) h ≡ Some n → EachCatches (p ∷ ps) (get_or ts n []) h
   lemma25 h n q = go (cases (p ∷ ps) h)
     where
       go : Case (p ∷ ps) h → EachCatches (p ∷ ps) (get_or ts n []) h
@@ -260,7 +259,7 @@ module _ (p : List Entry) (ps : List (List Entry)) (ts : List Tuple) (x : Ordere
           let r = at_first h t c in
           let e : n ≡ r.place = omega (arith, same_number (0 + r.place) n (sym r.catches ∙ q)) in
           subst (λ (s : Tuple). EachCatches (p ∷ ps) s h) (sym r.there ∙ ap (λ (k : ℕ). get_or ts k []) (sym e)) c
-      go (lacks a f) = absurd (let y : By n ≡ Uncaught = sym q ∙ (at_none h f).0 in let z : ◌≡◌ {A = ℕ} 0 1 = cc in omega arith)
+      go (lacks a f) = absurd (let y : Some n ≡ None = sym q ∙ (at_none h f).0 in let z : ◌≡◌ {A = ℕ} 0 1 = cc in omega arith)
 
   -- what it allows a header is what the policies allow it in common
   pub ordered_is : (h : Header) → allowed (entries_of (p ∷ ps) ts) h ≡ common_actions (p ∷ ps) h

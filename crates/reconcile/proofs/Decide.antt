@@ -1,10 +1,9 @@
 -- What it means that no header has a property, and that some has.
 -- Assumes nothing.
+use Rattle.std.specs.Prelude.{None, Option, Some}
 use mathlib.Core.Path.{◌≡◌, refl, ap}
 use mathlib.Core.Bool.{Bool, true, false}
 use Rattle.policy.specs.declared.header.Header.{Header}
-use Rattle.policy.specs.declared.header.Found.{Found}
-use Rattle.policy.specs.declared.header.Found.TheVariants.{At, Nothing}
 use Rattle.policy.specs.Header.{Headers, among}
 use Rattle.policy.specs.Least.{least}
 use Rattle.policy.proofs.Bool.{clash, is_false}
@@ -26,17 +25,17 @@ module _ (hs : Headers) (P : Header → Bool) where
   unfolding no_header
   nowhere e = go (least hs P) refl e
     where
-      go : (r : Found) → least hs P ≡ r → is_nothing r ≡ true → (h : Header) → among hs h ≡ true → P h ≡ false
-      go (At g) q e = clash e refl
-      go Nothing q e = none_tells hs P q
+      go : (r : Option Header) → least hs P ≡ r → is_nothing r ≡ true → (h : Header) → among hs h ≡ true → P h ≡ false
+      go (Some g) q e = clash e refl
+      go None q e = none_tells hs P q
 
   pub witness : no_header hs P ≡ false → Witness hs P
   unfolding no_header
   witness e = go (least hs P) refl e
     where
-      go : (r : Found) → least hs P ≡ r → is_nothing r ≡ false → Witness hs P
-      go (At h) q e = let t = at_tells hs P h q in record { header = h; member = t.0; holds = t.1 }
-      go Nothing q e = clash refl e
+      go : (r : Option Header) → least hs P ≡ r → is_nothing r ≡ false → Witness hs P
+      go (Some h) q e = let t = at_tells hs P h q in record { header = h; member = t.0; holds = t.1 }
+      go None q e = clash refl e
 
   pub somewhere : Witness hs P → no_header hs P ≡ false
   somewhere w = is_false (no_header hs P) λ e. clash w.holds (nowhere e w.header w.member)

@@ -1,5 +1,6 @@
 -- Rule 2: dropping leaves what the list allows; what is left catches; and Lemma 31.
 -- Assumes nothing.
+use Rattle.std.specs.Prelude.{Some}
 use Prim.Native.Nat.{ℕ, suc, ◌+◌}
 use native.Mathlib.Omega.{arith}
 use native.Mathlib.Nat.{zero-add}
@@ -12,7 +13,6 @@ use lib.ListN.{length, take, get_or}
 use lib.Seq.{take_at, get_or_at}
 use Rattle.policy.specs.declared.header.Header.{Header}
 use Rattle.policy.specs.declared.entry.Entry.{Entry}
-use Rattle.policy.specs.declared.entry.Caught.TheVariants.{By}
 use Rattle.policy.specs.Box.{proper}
 use Rattle.policy.specs.Header.{arity, fields, Headers, among}
 use Rattle.policy.specs.Entry.{selector, matches}
@@ -65,15 +65,15 @@ shadowed_by hs front e s =
 
 -- Lemma 31: an entry is shadowed exactly if it catches no header
 module _ (hs : Headers) (front : List Entry) (e : Entry) (back : List Entry) where
-  catcher_at : (n : ℕ) (p : List Entry) (h : Header) → missed p h ≡ true → matches e h ≡ true → catcher_from n (p ++ e ∷ back) h ≡ By (n + length p)
-  catcher_at n [] h u m = ap (λ (b : Bool). cond b (By n) (catcher_from (n + 1) back h)) m ∙ ap By (plain n)
+  catcher_at : (n : ℕ) (p : List Entry) (h : Header) → missed p h ≡ true → matches e h ≡ true → catcher_from n (p ++ e ∷ back) h ≡ Some (n + length p)
+  catcher_at n [] h u m = ap (λ (b : Bool). cond b (Some n) (catcher_from (n + 1) back h)) m ∙ ap Some (plain n)
     where
       plain : (n : ℕ) → n ≡ n + 0
       plain n = omega arith
   catcher_at n (d ∷ p) h u m =
-      ap (λ (b : Bool). cond b (By n) (catcher_from (n + 1) (p ++ e ∷ back) h)) (not_true {b = matches d h} (and_left (not (matches d h)) (missed p h) v))
+      ap (λ (b : Bool). cond b (Some n) (catcher_from (n + 1) (p ++ e ∷ back) h)) (not_true {b = matches d h} (and_left (not (matches d h)) (missed p h) v))
       ∙ catcher_at (n + 1) p h (and_right (not (matches d h)) (missed p h) v) m
-      ∙ ap By (up n (length p))
+      ∙ ap Some (up n (length p))
     where
       v : (not (matches d h) && missed p h) ≡ true
       v = sym (missed_cons d p h) ∙ u
@@ -81,7 +81,7 @@ module _ (hs : Headers) (front : List Entry) (e : Entry) (back : List Entry) whe
       up : (n k : ℕ) → n + 1 + k ≡ n + suc k
       up n k = omega arith
 
-  pub lemma31 : Shadowed hs front e → (h : Header) → among hs h ≡ true → catcher (front ++ e ∷ back) h ≡ By (length front) → ⊥
+  pub lemma31 : Shadowed hs front e → (h : Header) → among hs h ≡ true → catcher (front ++ e ∷ back) h ≡ Some (length front) → ⊥
   lemma31 s h a q = clash (s h a m) (not_true u)
     where
       c : (i : ℕ) × (length front ≡ 0 + i) × Catches (front ++ e ∷ back) i h
@@ -106,8 +106,8 @@ module _ (hs : Headers) (front : List Entry) (e : Entry) (back : List Entry) whe
           ∙ get_or_at c.2.front c.2.entry c.2.back e (length front) place)
           ∙ c.2.matched
 
-  pub lemma31_back : ((h : Header) → among hs h ≡ true → catcher (front ++ e ∷ back) h ≡ By (length front) → ⊥) → Shadowed hs front e
-  lemma31_back f h a m = not_false (is_false (missed front h) λ u. f h a (catcher_at 0 front h u m ∙ ap By (zero-add (length front))))
+  pub lemma31_back : ((h : Header) → among hs h ≡ true → catcher (front ++ e ∷ back) h ≡ Some (length front) → ⊥) → Shadowed hs front e
+  lemma31_back f h a m = not_false (is_false (missed front h) λ u. f h a (catcher_at 0 front h u m ∙ ap Some (zero-add (length front))))
 
 -- ---- entries that catch no header
 

@@ -1,16 +1,15 @@
 -- Rules 3 and 4 on rows: the searches, and the pass from last to first over the entries beside them.
 -- Assumes nothing.
+use Rattle.std.specs.Prelude.{None, Option, Some, is_some}
 use Prim.Native.Nat.{ℕ, suc, ◌+◌, ◌*◌, ◌-◌, ◌<◌, ◌≤◌}
 use native.Mathlib.Omega.{arith}
 use native.Mathlib.Numerals.{add-one}
 use mathlib.Core.Path.{◌≡◌, refl, sym, ◌∙◌, ap, ap₂, subst, fun_ext}
 use mathlib.Core.Bool.{Bool, true, false, not, cond, ◌&&◌}
-use mathlib.Core.List.{List, ◌∷◌}
+use mathlib.Core.List.{List, [], ◌∷◌}
 use lib.ListN.{length, take, drop, get_or, set, length-set}
-use lib.Seq.{take-suc, take-take, get_or-take, take-set-le, take-set-lt, drop-set-lt, get_or-set_same, paste, length-paste, slice, slice_empty, slice-cons}
+use lib.Seq.{take-suc, take_all, take-take, get_or-take, take-set-le, take-set-lt, drop-set-lt, get_or-set_same, paste, length-paste, slice, slice_empty, slice-cons}
 use Rattle.policy.specs.declared.header.Header.{Header}
-use Rattle.policy.specs.declared.header.Found.{Found}
-use Rattle.policy.specs.declared.header.Found.TheVariants.{At, Nothing}
 use Rattle.policy.specs.declared.entry.Entry.{Entry}
 use Rattle.policy.specs.Header.{Box, lies, Headers, headers, everything}
 use Rattle.policy.specs.steps.Findings.{lesser}
@@ -20,7 +19,7 @@ use Rattle.policy.specs.Policy.{allowed, missed}
 use Rattle.policy.specs.Sides.{box_of}
 use Rattle.policy.specs.steps.Rows.{row_size, row_at, rows_from, rows_in, numbers_of}
 use Rattle.policy.proofs.Least.{lesser_last}
-use Rattle.policy.proofs.Bool.{not_true, not_false}
+use Rattle.policy.proofs.Bool.{clash}
 use Rattle.wire.proofs.Lists.{zero_entry}
 use Rattle.region.specs.declared.treated.Sets.TheVariants.{Same, Other}
 use Rattle.region.specs.steps.Treated.{judged}
@@ -33,16 +32,16 @@ use Rattle.reconcile.proofs.Beside.{lent_front, lent_back, Beside, beside_front,
 -- ---- rule 3
 
 -- nothing stands in front of the list
-pub conflict_search : (s : List ℕ) (p : List Entry) (b : Box) (r : Found) → b ≡ everything
-    → r ≡ lesser (least_in headers b (λ h. missed (rows_in (take (0 - 0) s)) h && judged (Same 0) false (allowed p h))) Nothing
+pub conflict_search : (s : List ℕ) (p : List Entry) (b : Box) (r : Option Header) → b ≡ everything
+    → r ≡ lesser (least_in headers b (λ h. missed (rows_in (take 0 s)) h && judged (Same 0) false (allowed p h))) None
     → r ≡ least headers (λ h. is_empty (allowed p h))
 conflict_search s p b r e q =
     least_gap headers (λ h. judged (Same 0) false (allowed p h)) b r e q ∙ ap (least headers) (fun_ext λ h. sym (empty_judged (allowed p h)))
 
 -- ---- rule 4, one entry
 
-needless_search : (hs : Headers) (front : List Entry) (e : Entry) (back : List Entry) (b : Box) (a : ℕ) (f : Found) → b ≡ selector e → a ≡ e.actions
-    → f ≡ lesser (least_in hs b (λ h. missed front h && judged (Other a) true (allowed back h))) Nothing → needless hs front e back ≡ is_nothing f
+needless_search : (hs : Headers) (front : List Entry) (e : Entry) (back : List Entry) (b : Box) (a : ℕ) (f : Option Header) → b ≡ selector e → a ≡ e.actions
+    → f ≡ lesser (least_in hs b (λ h. missed front h && judged (Other a) true (allowed back h))) None → needless hs front e back ≡ is_nothing f
 unfolding no_header least_in
 needless_search hs front e back b a f x y q =
     needless_is hs front e back
@@ -51,24 +50,27 @@ needless_search hs front e back b a f x y q =
     ∙ ap₂ (λ (s : Box) (c : ℕ). least hs λ h. lies s h && (missed front h && judged (Other c) true (allowed back h))) (sym x) (sym y)
     ∙ sym (q ∙ lesser_last (least hs λ h. lies b h && (missed front h && judged (Other a) true (allowed back h)))))
 
-module _ (s : List ℕ) (k top n : ℕ) (b : Box) (a : ℕ) (f : Found) (l : k < top) (m : top ≤ n) (z : row_size * n ≤ length s) (x : b ≡ box_of s (row_size * k))
+module _ (s : List ℕ) (k top n : ℕ) (b : Box) (a : ℕ) (f : Option Header) (l : k < top) (m : top ≤ n) (z : row_size * n ≤ length s) (x : b ≡ box_of s (row_size * k))
     (y : a ≡ (row_at s (row_size * k)).actions)
     (q : f
     ≡ lesser
     (least_in headers b λ h.
-    missed (rows_in (take (row_size * k - 0) s)) h
+    missed (rows_in (take (row_size * k) s)) h
     && judged (Other a) true (allowed (rows_in (take (row_size * n - row_size * top) (drop (row_size * top) s))) h))
-    Nothing) where
+    None) where
   test : needless headers (rows_from s 0 k) (row_at s (row_size * k)) (rows_from s (row_size * top) (n - top)) ≡ is_nothing f
   test =
       sym (ap₂ (λ (p r : List Entry). needless headers p (row_at s (row_size * k)) r) (lent_front s k (omega arith)) (lent_back s top n m z))
-      ∙ needless_search headers (rows_in (take (row_size * k - 0) s)) (row_at s (row_size * k)) (rows_in (take (row_size * n - row_size * top) (drop (row_size * top) s))) b a f x y q
+      ∙ needless_search headers (rows_in (take (row_size * k) s)) (row_at s (row_size * k)) (rows_in (take (row_size * n - row_size * top) (drop (row_size * top) s))) b a f x y q
 
-  pub needed_some : {h : Header} → f ≡ At h → false ≡ needless headers (rows_from s 0 k) (row_at s (row_size * k)) (rows_from s (row_size * top) (n - top))
-  needed_some e = sym (test ∙ ap is_nothing e)
-
-  pub needless_none : f ≡ Nothing → true ≡ needless headers (rows_from s 0 k) (row_at s (row_size * k)) (rows_from s (row_size * top) (n - top))
-  needless_none e = sym (test ∙ ap is_nothing e)
+  pub needless_found : (u : Bool) → is_some f ≡ not u → u ≡ needless headers (rows_from s 0 k) (row_at s (row_size * k)) (rows_from s (row_size * top) (n - top))
+  needless_found u e = go u f e ∙ sym test
+    where
+      go : (u : Bool) (f : Option Header) → is_some f ≡ not u → u ≡ is_nothing f
+      go true None e = refl
+      go false (Some h) e = refl
+      go true (Some h) e = clash refl e
+      go false None e = clash e refl
 
 -- ---- rule 4, the pass
 
@@ -83,20 +85,24 @@ pub record Examined (ds : List Entry) (n : ℕ) (s : List ℕ) (es : List Entry)
   pub few : n ≤ length es
   pub size : length es ≡ length ds
 
-pub examined_none : (s : List ℕ) (es : List Entry) (n : ℕ) → Beside s es n → row_size * n ≤ length s → n ≤ length es → Examined es n s es n n
-examined_none s es n b l m = record {
+pub examined_none : (s : List ℕ) (es : List Entry) → rows_from s 0 (length es) ≡ es → row_size * length es ≤ length s → Examined es (length es) s es (length es) (length es)
+examined_none s es b l = record {
   front = refl;
-  back = slice_empty n es ∙ ap (struck_from headers (take n es)) (sym (slice_empty n es));
+  back = slice_empty (length es) es ∙ ap (struck_from headers (take (length es) es)) (sym (slice_empty (length es) es));
   above = omega arith;
   most = omega arith;
-  beside = b;
+  beside = b ∙ sym (take_all (length es) es (omega arith));
   room = l;
-  few = m;
+  few = omega arith;
   size = refl;
 }
 
-pub examined_all : (ds es : List Entry) (s : List ℕ) (n top k : ℕ) → Examined ds n s es top k → k ≤ 0 → (top ≤ n) × (slice top n es ≡ struck headers (take n ds))
-examined_all ds es s n top k x l = (x.most, x.back ∙ ap (λ (j : ℕ). struck_from headers (take j ds) (slice j n ds)) (none k l))
+pub examined_all : (ds es : List Entry) (s : List ℕ) (top k : ℕ) → Examined ds (length ds) s es top k → k ≤ 0 → (top ≤ length es) × (drop top es ≡ struck headers ds)
+examined_all ds es s top k x z = (
+  omega (arith, x.most, x.size),
+  ap (drop top) (sym (take_all (length ds) es (omega (arith, x.size)))) ∙ x.back
+      ∙ ap (λ (j : ℕ). struck_from headers (take j ds) (slice j (length ds) ds)) (none k z) ∙ ap (struck_from headers []) (take_all (length ds) ds (omega arith)),
+)
   where
     none : (k : ℕ) → k ≤ 0 → k ≡ 0
     none k l = omega arith
@@ -130,10 +136,10 @@ module _ (ds es : List Entry) (s : List ℕ) (n top j : ℕ) (x : Examined ds n 
         (beside_front s es n x.beside j (omega (arith, x.above, x.most))) (beside_at s es n x.beside j zero_entry (omega (arith, x.above, x.most)))
         ∙ ap (needless headers (take j es) (get_or es j zero_entry)) (beside_back s es n x.beside top x.most)))
 
-    examined_struck : not t ≡ false → Examined ds n s es top j
+    examined_struck : t ≡ true → Examined ds n s es top j
     examined_struck u = record {
       front = front_same;
-      back = sym (struck_as ∙ ap (λ (b : Bool). cond b (slice top n es) (get_or es j zero_entry ∷ slice top n es)) (not_false {b = t} u));
+      back = sym (struck_as ∙ ap (λ (b : Bool). cond b (slice top n es) (get_or es j zero_entry ∷ slice top n es)) u);
       above = omega (arith, x.above);
       most = x.most;
       beside = x.beside;
@@ -142,14 +148,14 @@ module _ (ds es : List Entry) (s : List ℕ) (n top j : ℕ) (x : Examined ds n 
       size = x.size;
     }
 
-    examined_kept : (r : List ℕ) (e : Entry) → not t ≡ true → e ≡ get_or es j zero_entry → r ≡ paste s (row_size * (top - 1)) (numbers_of e) row_size
+    examined_kept : (r : List ℕ) (e : Entry) → t ≡ false → e ≡ get_or es j zero_entry → r ≡ paste s (row_size * (top - 1)) (numbers_of e) row_size
         → Examined ds n r (set es (top - 1) e) (top - 1) j
     examined_kept r e u y h = record {
       front = take-set-le j es (top - 1) e (omega (arith, x.above)) ∙ front_same;
       back =
           slice-cons (top - 1) n (set es (top - 1) e) zero_entry (omega (arith, x.above, x.most)) (omega (arith, x.few, length-set es (top - 1) e))
           ∙ ap₂ ◌∷◌ (get_or-set_same es (top - 1) e zero_entry (omega (arith, x.above, x.most, x.few)) ∙ y) (ap (λ (i : ℕ). slice i n (set es (top - 1) e)) (up top (omega (arith, x.above))) ∙ same)
-          ∙ sym (struck_as ∙ ap (λ (b : Bool). cond b (slice top n es) (get_or es j zero_entry ∷ slice top n es)) (not_true {b = t} u));
+          ∙ sym (struck_as ∙ ap (λ (b : Bool). cond b (slice top n es) (get_or es j zero_entry ∷ slice top n es)) u);
       above = omega (arith, x.above);
       most = omega (arith, x.most);
       beside = beside_set s es n x.beside (top - 1) e r (omega (arith, x.above, x.most, x.room)) h (omega (arith, x.above, x.most));
@@ -164,15 +170,15 @@ module _ (ds es : List Entry) (s : List ℕ) (n top j : ℕ) (x : Examined ds n 
         same : slice top n (set es (top - 1) e) ≡ slice top n es
         same = ap (drop top) (take-set-lt n es (top - 1) e (omega (arith, x.above, x.most))) ∙ drop-set-lt top (take n es) (top - 1) e (omega (arith, x.above))
 
--- the same for the loop, which counts down first
+-- the same for the loop, which counts down
 up : (k : ℕ) → 0 < k → k ≡ k - 1 + 1
 up k l = omega arith
 
 module _ (ds es : List Entry) (s : List ℕ) (n top k : ℕ) (x : Examined ds n s es top k) (l : 0 < k) (t : Bool)
     (q : t ≡ needless headers (rows_from s 0 (k - 1)) (row_at s (row_size * (k - 1))) (rows_from s (row_size * top) (n - top))) where
-  pub pass_struck : not t ≡ false → Examined ds n s es top (k - 1)
+  pub pass_struck : t ≡ true → Examined ds n s es top (k - 1)
   pass_struck u = examined_struck ds es s n top (k - 1) (subst (Examined ds n s es top) (up k l) x) t q u
 
-  pub pass_kept : (r : List ℕ) (e : Entry) → not t ≡ true → e ≡ get_or es (k - 1) zero_entry → r ≡ paste s (row_size * (top - 1)) (numbers_of e) row_size
+  pub pass_kept : (r : List ℕ) (e : Entry) → t ≡ false → e ≡ get_or es (k - 1) zero_entry → r ≡ paste s (row_size * (top - 1)) (numbers_of e) row_size
       → Examined ds n r (set es (top - 1) e) (top - 1) (k - 1)
   pass_kept r e u y h = examined_kept ds es s n top (k - 1) (subst (Examined ds n s es top) (up k l) x) t q r e u y h

@@ -1,6 +1,7 @@
 -- What is kept of the entries that are offered so far: the first entries of an array, with their rows beside them.
 -- Assumes nothing.
-use Prim.Native.Nat.{ℕ, ◌+◌, ◌*◌, ◌-◌, ◌<◌, ◌≤◌}
+use Rattle.std.specs.Prelude.{None, Option, Some, is_some}
+use Prim.Native.Nat.{ℕ, ◌+◌, ◌*◌, ◌<◌, ◌≤◌}
 use native.Mathlib.Omega.{arith}
 use mathlib.Core.Path.{◌≡◌, refl, sym, ◌∙◌, ap, ap₂}
 use mathlib.Core.Bool.{Bool, true, false, not, cond, ◌&&◌, and_comm}
@@ -10,8 +11,6 @@ use lib.Seq.{length-take-le, take-suc-set, paste, length-paste}
 use native.Mathlib.Numerals.{add-one}
 use borrow.Author.Tests.{le-leb, lt-leb}
 use Rattle.policy.specs.declared.header.Header.{Header}
-use Rattle.policy.specs.declared.header.Found.{Found}
-use Rattle.policy.specs.declared.header.Found.TheVariants.{At, Nothing}
 use Rattle.policy.specs.declared.entry.Entry.{Entry}
 use Rattle.policy.specs.Box.{proper}
 use Rattle.policy.specs.Header.{arity, Box, lies, Headers, headers}
@@ -31,19 +30,20 @@ use Rattle.reconcile.proofs.Beside.{lent_front, Beside, beside_next}
 
 -- ---- whether a header of a box is left
 
-left_search : (hs : Headers) (p : List Entry) (b : Box) (f : Found) → f ≡ lesser (least_in hs b (missed p)) Nothing → (no_header hs λ h. missed p h && lies b h) ≡ is_nothing f
+left_search : (hs : Headers) (p : List Entry) (b : Box) (f : Option Header) → f ≡ lesser (least_in hs b (missed p)) None → (no_header hs λ h. missed p h && lies b h) ≡ is_nothing f
 unfolding no_header least_in
 left_search hs p b f q =
     ap is_nothing
     (agree hs (λ h. missed p h && lies b h) (λ h. lies b h && missed p h) (λ h a. and_comm (missed p h) (lies b h))
     ∙ sym (q ∙ lesser_last (least hs λ h. lies b h && missed p h)))
 
-module _ (p : List Entry) (b : Box) (f : Found) (q : f ≡ lesser (least_in headers b (missed p)) Nothing) where
-  pub left_some : {h : Header} → f ≡ At h → true ≡ not (no_header headers λ h. missed p h && lies b h)
-  left_some y = sym (ap not (left_search headers p b f q ∙ ap is_nothing y))
-
-  pub left_none : f ≡ Nothing → false ≡ not (no_header headers λ h. missed p h && lies b h)
-  left_none y = sym (ap not (left_search headers p b f q ∙ ap is_nothing y))
+module _ (p : List Entry) (b : Box) (f : Option Header) (q : f ≡ lesser (least_in headers b (missed p)) None) where
+  pub left_found : (u : Bool) → u ≡ is_some f → u ≡ not (no_header headers λ h. missed p h && lies b h)
+  left_found u e = e ∙ go f ∙ sym (ap not (left_search headers p b f q))
+    where
+      go : (f : Option Header) → is_some f ≡ not (is_nothing f)
+      go None = refl
+      go (Some h) = refl
 
 -- ---- the working list of the first n entries
 
@@ -83,7 +83,7 @@ module _ (rows : List ℕ) (es : List Entry) (n : ℕ) (p : List Entry) (e : Ent
   pub keeps_empty : proper arity (selector e) ≡ false → Keeps rows es n (p ++ e ∷ [])
   keeps_empty q = one_shadowed (empty_shadowed headers (take n es) e q)
 
-  module _ (t : Bool) (b : Box) (c : t ≡ not (no_header headers λ h. missed (rows_in (take (row_size * n - 0) rows)) h && lies b h)) (x : b ≡ selector e) where
+  module _ (t : Bool) (b : Box) (c : t ≡ not (no_header headers λ h. missed (rows_in (take (row_size * n) rows)) h && lies b h)) (x : b ≡ selector e) where
     test : t ≡ not (shadowed headers (take n es) e)
     test =
         c
@@ -91,23 +91,23 @@ module _ (rows : List ℕ) (es : List Entry) (n : ℕ) (p : List Entry) (e : Ent
         (lent_front rows n (omega (arith, k.few, k.room)) ∙ k.beside) x
 
     -- nothing of it is left
-    pub keeps_shadowed : not t ≡ true → Keeps rows es n (p ++ e ∷ [])
-    keeps_shadowed q = one_shadowed (not_false {b = shadowed headers (take n es) e} (sym test ∙ not_true q))
+    pub keeps_shadowed : t ≡ false → Keeps rows es n (p ++ e ∷ [])
+    keeps_shadowed q = one_shadowed (not_false {b = shadowed headers (take n es) e} (sym test ∙ q))
 
-    one_limited : not t ≡ false → offered_all headers (list []) (p ++ e ∷ []) ≡ limited (take n es ++ e ∷ [])
+    one_limited : t ≡ true → offered_all headers (list []) (p ++ e ∷ []) ≡ limited (take n es ++ e ∷ [])
     one_limited q =
         one_more
-        ∙ ap (λ (b : Bool). cond b (list (take n es)) (limited (take n es ++ e ∷ []))) (not_true {b = shadowed headers (take n es) e} (sym test ∙ not_false q))
+        ∙ ap (λ (b : Bool). cond b (list (take n es)) (limited (take n es ++ e ∷ []))) (not_true {b = shadowed headers (take n es) e} (sym test ∙ q))
 
     count : length (take n es ++ e ∷ []) ≡ n + 1
     count = length-append (take n es) (e ∷ []) ∙ ap (◌+ 1) (length-take-le n es (omega (arith, k.few, k.places)))
 
     -- it is one too many
-    pub keeps_full : not t ≡ false → list_limit ≤ n → offered_all headers (list []) (p ++ e ∷ []) ≡ crowded
+    pub keeps_full : t ≡ true → list_limit ≤ n → offered_all headers (list []) (p ++ e ∷ []) ≡ crowded
     keeps_full q l = one_limited q ∙ ap (λ (b : Bool). cond b (list (take n es ++ e ∷ [])) crowded) (lt-leb (length (take n es ++ e ∷ [])) list_limit (omega (arith, count)))
 
     -- it is kept
-    pub keeps_kept : (r : List ℕ) → not t ≡ false → n < list_limit → r ≡ paste rows (row_size * n) (numbers_of e) row_size → Keeps r (set es n e) (n + 1) (p ++ e ∷ [])
+    pub keeps_kept : (r : List ℕ) → t ≡ true → n < list_limit → r ≡ paste rows (row_size * n) (numbers_of e) row_size → Keeps r (set es n e) (n + 1) (p ++ e ∷ [])
     keeps_kept r q l h = record {
       model =
           one_limited q

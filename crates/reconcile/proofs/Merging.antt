@@ -1,5 +1,6 @@
 -- What demand 3 says of a merging, of `merge_of`, over any set of headers.
 -- Assumes nothing.
+use Rattle.std.specs.Prelude.{None, Option, Some}
 use Prim.Native.Nat.{ℕ, ◌≤◌}
 use native.Mathlib.Omega.{arith}
 use mathlib.Core.Path.{◌≡◌, refl, sym, ◌∙◌, ap, subst}
@@ -9,8 +10,6 @@ use lib.Dec.{leb}
 use lib.ListN.{length}
 use borrow.Author.Tests.{leb-true}
 use Rattle.policy.specs.declared.header.Header.{Header}
-use Rattle.policy.specs.declared.header.Found.{Found}
-use Rattle.policy.specs.declared.header.Found.TheVariants.{At, Nothing}
 use Rattle.policy.specs.declared.entry.Entry.{Entry}
 use Rattle.policy.specs.declared.refusal.Refusal.TheVariants.{Bare, Crowded, Conflict}
 use Rattle.policy.specs.Header.{Headers, among, before}
@@ -121,17 +120,17 @@ pub merging_cases : (hs : Headers) (ps : List (List Entry)) (P : Merging → Typ
 merging_cases hs [] P b c k m = b
 merging_cases hs (p ∷ ps) P b c k m = go (working hs p ps) (conflict_of hs (p ∷ ps))
   where
-    go : (w : Working) (f : Found) → P (finished hs w f)
+    go : (w : Working) (f : Option Header) → P (finished hs w f)
     go crowded f = c
-    go (list w) (At h) = k h
-    go (list w) Nothing = m (struck hs w)
+    go (list w) (Some h) = k h
+    go (list w) None = m (struck hs w)
 
 -- ---- an accepted merging
 
 pub record Merges (hs : Headers) (p : List Entry) (ps : List (List Entry)) (m : List Entry) : Type 0 where
   pub work : List Entry
   pub worked : working hs p ps ≡ list work
-  pub no_conflict : conflict_of hs (p ∷ ps) ≡ Nothing
+  pub no_conflict : conflict_of hs (p ∷ ps) ≡ None
   pub left : m ≡ struck hs work
 
 abbrev pub unmerged : Merging → List Entry
@@ -141,9 +140,9 @@ unmerged (merged m) = m
 pub merges : (hs : Headers) (p : List Entry) (ps : List (List Entry)) (m : List Entry) → merge_of hs (p ∷ ps) ≡ merged m → Merges hs p ps m
 merges hs p ps m e = go (working hs p ps) refl (conflict_of hs (p ∷ ps)) refl e
   where
-    go : (w : Working) → working hs p ps ≡ w → (c : Found) → conflict_of hs (p ∷ ps) ≡ c → finished hs w c ≡ merged m → Merges hs p ps m
-    go (list w) u Nothing v e = record { work = w; worked = u; no_conflict = v; left = sym (ap unmerged e) }
-    go (list w) u (At h) v e = absurd (let z : ◌≡◌ {A = ℕ} 0 1 = cc in omega arith)
+    go : (w : Working) → working hs p ps ≡ w → (c : Option Header) → conflict_of hs (p ∷ ps) ≡ c → finished hs w c ≡ merged m → Merges hs p ps m
+    go (list w) u None v e = record { work = w; worked = u; no_conflict = v; left = sym (ap unmerged e) }
+    go (list w) u (Some h) v e = absurd (let z : ◌≡◌ {A = ℕ} 0 1 = cc in omega arith)
     go crowded u c v e = absurd (let z : ◌≡◌ {A = ℕ} 0 1 = cc in omega arith)
 
 module _ (hs : Headers) (p : List Entry) (ps : List (List Entry)) (m : List Entry) (e : merge_of hs (p ∷ ps) ≡ merged m) where
@@ -212,18 +211,18 @@ module _ (hs : Headers) (p : List Entry) (ps : List (List Entry)) where
   pub conflict_tells : (h : Header) → merge_of hs (p ∷ ps) ≡ refused (Conflict h) → Conflicts hs p ps h
   conflict_tells h e = go (working hs p ps) refl (conflict_of hs (p ∷ ps)) refl e
     where
-      go : (w : Working) → working hs p ps ≡ w → (c : Found) → conflict_of hs (p ∷ ps) ≡ c → finished hs w c ≡ refused (Conflict h) → Conflicts hs p ps h
+      go : (w : Working) → working hs p ps ≡ w → (c : Option Header) → conflict_of hs (p ∷ ps) ≡ c → finished hs w c ≡ refused (Conflict h) → Conflicts hs p ps h
       go crowded u c i e = absurd (let z : ◌≡◌ {A = ℕ} 0 1 = cc in omega arith)
-      go (list w) u Nothing i e = absurd (let z : ◌≡◌ {A = ℕ} 0 1 = cc in omega arith)
-      go (list w) u (At g) i e =
+      go (list w) u None i e = absurd (let z : ◌≡◌ {A = ℕ} 0 1 = cc in omega arith)
+      go (list w) u (Some g) i e =
           let q : g ≡ h = cc in
-          let t = at_tells hs (lacking (p ∷ ps)) h (i ∙ ap At q) in
+          let t = at_tells hs (lacking (p ∷ ps)) h (i ∙ ap Some q) in
           record { within = λ r. crowded_list (sym r ∙ u); member = t.0; empty = t.1; earliest = t.2 }
 
   pub conflict_made : (h : Header) → Conflicts hs p ps h → merge_of hs (p ∷ ps) ≡ refused (Conflict h)
   conflict_made h c = ap (finished hs (working hs p ps)) (least_at hs (lacking (p ∷ ps)) h c.member c.empty c.earliest) ∙ go (working hs p ps) c.within
     where
-      go : (w : Working) → (w ≡ crowded → ⊥) → finished hs w (At h) ≡ refused (Conflict h)
+      go : (w : Working) → (w ≡ crowded → ⊥) → finished hs w (Some h) ≡ refused (Conflict h)
       go (list w) r = refl
       go crowded r = absurd (r refl)
 
@@ -231,16 +230,16 @@ module _ (hs : Headers) (p : List Entry) (ps : List (List Entry)) where
   pub conflict_some : (h : Header) → (working hs p ps ≡ crowded → ⊥) → among hs h ≡ true → lacking (p ∷ ps) h ≡ true → (g : Header) × (merge_of hs (p ∷ ps) ≡ refused (Conflict g))
   conflict_some h r a x = go (working hs p ps) refl (conflict_of hs (p ∷ ps)) refl
     where
-      go : (w : Working) → working hs p ps ≡ w → (c : Found) → conflict_of hs (p ∷ ps) ≡ c → (g : Header) × (finished hs w c ≡ refused (Conflict g))
+      go : (w : Working) → working hs p ps ≡ w → (c : Option Header) → conflict_of hs (p ∷ ps) ≡ c → (g : Header) × (finished hs w c ≡ refused (Conflict g))
       go crowded u c i = absurd (r u)
-      go (list w) u (At g) i = (g, refl)
-      go (list w) u Nothing i = clash x (none_tells hs (lacking (p ∷ ps)) i h a)
+      go (list w) u (Some g) i = (g, refl)
+      go (list w) u None i = clash x (none_tells hs (lacking (p ∷ ps)) i h a)
 
   -- where there is none, and the working list is not crowded, the merging is accepted
   pub accepted_when : (working hs p ps ≡ crowded → ⊥) → ((h : Header) → among hs h ≡ true → lacking (p ∷ ps) h ≡ false) → (m : List Entry) × (merge_of hs (p ∷ ps) ≡ merged m)
   accepted_when r f = go (working hs p ps) refl (conflict_of hs (p ∷ ps)) refl
     where
-      go : (w : Working) → working hs p ps ≡ w → (c : Found) → conflict_of hs (p ∷ ps) ≡ c → (m : List Entry) × (finished hs w c ≡ merged m)
+      go : (w : Working) → working hs p ps ≡ w → (c : Option Header) → conflict_of hs (p ∷ ps) ≡ c → (m : List Entry) × (finished hs w c ≡ merged m)
       go crowded u c i = absurd (r u)
-      go (list w) u (At g) i = let t = at_tells hs (lacking (p ∷ ps)) g i in clash t.1 (f g t.0)
-      go (list w) u Nothing i = (struck hs w, refl)
+      go (list w) u (Some g) i = let t = at_tells hs (lacking (p ∷ ps)) g i in clash t.1 (f g t.0)
+      go (list w) u None i = (struck hs w, refl)

@@ -1,10 +1,10 @@
 -- The merging by searches that compute, and that it is the merging.
 -- Assumes nothing.
+use Rattle.std.specs.Prelude.{None, Option, Some}
+use Rattle.policy.specs.declared.header.Header.{Header}
 use mathlib.Core.Path.{◌≡◌, refl, sym, ◌∙◌, ap, ap₂, fun_ext}
 use mathlib.Core.Bool.{Bool, true, false, cond, ◌&&◌, and_comm}
 use mathlib.Core.List.{List, [], ◌∷◌, ◌++◌}
-use Rattle.policy.specs.declared.header.Found.{Found}
-use Rattle.policy.specs.declared.header.Found.TheVariants.{At, Nothing}
 use Rattle.policy.specs.declared.entry.Entry.{Entry}
 use Rattle.policy.specs.Header.{Headers, everything}
 use Rattle.policy.specs.declared.refusal.Refusal.TheVariants.{Bare, Crowded, Conflict}
@@ -28,7 +28,7 @@ shadowed_by hs front e = is_nothing (seek hs (asked never front) true (selector 
 abbrev needless_by : Headers → List Entry → Entry → List Entry → Bool
 needless_by hs front e back = is_nothing (seek hs (asked never front ++ asked (wanted (Other e.actions)) back) true (selector e))
 
-abbrev empty_by : Headers → List Entry → Found
+abbrev empty_by : Headers → List Entry → Option Header
 empty_by hs w = seek hs (asked (wanted (Same 0)) w) false everything
 
 -- ---- the merging
@@ -52,9 +52,9 @@ abbrev next_all_by : Headers → Working → List (List Entry) → Working
 next_all_by hs w [] = w
 next_all_by hs w (p ∷ ps) = next_all_by hs (next_by hs w p) ps
 
-abbrev settled_by : Headers → Found → List Entry → Merging
-settled_by hs (At h) w = refused (Conflict h)
-settled_by hs Nothing w = merged (struck_by hs [] w)
+abbrev settled_by : Headers → Option Header → List Entry → Merging
+settled_by hs (Some h) w = refused (Conflict h)
+settled_by hs None w = merged (struck_by hs [] w)
 
 abbrev finished_by : Headers → Working → Merging
 finished_by hs (list w) = settled_by hs (empty_by hs w) w
@@ -119,10 +119,10 @@ module _ (hs : Headers) where
       go (working hs p ps) refl
       ∙ ap (finished_by hs) (next_all_by-is (limited (trimmed hs p)) ps ∙ ap (λ (l : List Entry). next_all_by hs (limited l) ps) (trimmed_is p))
     where
-      settle : (c : Found) (w : List Entry) → settled hs c w ≡ settled_by hs c w
-      settle (At h) w = refl
-      settle Nothing w = ap merged (struck_by-is [] w)
+      settle : (c : Option Header) (w : List Entry) → settled hs c w ≡ settled_by hs c w
+      settle (Some h) w = refl
+      settle None w = ap merged (struck_by-is [] w)
 
       go : (w : Working) → working hs p ps ≡ w → finished hs w (conflict_of hs (p ∷ ps)) ≡ finished_by hs w
-      go (list w) e = ap (λ (c : Found). settled hs c w) (sym (rule3_least hs p ps w e) ∙ empty_by-is w) ∙ settle (empty_by hs w) w
+      go (list w) e = ap (λ (c : Option Header). settled hs c w) (sym (rule3_least hs p ps w e) ∙ empty_by-is w) ∙ settle (empty_by hs w) w
       go crowded e = refl

@@ -1,6 +1,5 @@
 -- Refusals 8 to 12 and the file that is written (01, "What is turned down" and "Merging"; 02, Wish 2).
-use Rattle.std.specs.Prelude.{ℕ, Bool, true, false, not, List, [], ◌∷◌, length}
-use Rattle.std.proofs.Math.Option.{Option}
+use Rattle.std.specs.Prelude.{ℕ, Bool, true, false, not, List, [], ◌∷◌, length, Option}
 use Rattle.policy.specs.declared.entry.Entry.{Entry}
 use Rattle.policy.specs.declared.refusal.Refusal.TheVariants.{Bare, Crowded, Conflict, Ranking}
 use Rattle.policy.specs.Header.{Headers}

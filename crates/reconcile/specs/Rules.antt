@@ -1,8 +1,6 @@
 -- 01, "Merging": rules 1 to 4 over a set hs of headers, for the lists in force in rising number of their parties.
-use Rattle.std.specs.Prelude.{ℕ, zero, suc, ◌≡◌, ◌⊎◌, Bool, true, false, not, cond, ◌&&◌, ◌||◌, List, [], ◌∷◌, ◌++◌, map, leb, eqb, length}
+use Rattle.std.specs.Prelude.{ℕ, zero, suc, ◌≡◌, ◌⊎◌, Bool, true, false, not, cond, ◌&&◌, ◌||◌, List, [], ◌∷◌, ◌++◌, map, leb, eqb, length, None, Option, Some}
 use Rattle.policy.specs.declared.header.Header.{Header}
-use Rattle.policy.specs.declared.header.Found.{Found}
-use Rattle.policy.specs.declared.header.Found.TheVariants.{At, Nothing}
 use Rattle.policy.specs.declared.entry.Entry.{Entry}
 use Rattle.policy.specs.declared.refusal.Refusal.{Refusal}
 use Rattle.policy.specs.declared.refusal.Refusal.TheVariants.{Bare, Crowded, Conflict}
@@ -16,9 +14,9 @@ use Rattle.wire.specs.Format.{list_limit}
 
 -- ---- what is asked of every header
 
-abbrev pub is_nothing : Found → Bool
-is_nothing (At h) = false
-is_nothing Nothing = true
+abbrev pub is_nothing : Option Header → Bool
+is_nothing (Some h) = false
+is_nothing None = true
 
 -- no header of the set has the property
 unfoldable pub no_header : Headers → (Header → Bool) → Bool
@@ -138,7 +136,7 @@ abbrev pub lacking : List (List Entry) → Header → Bool
 lacking ps h = is_empty (common_actions ps h)
 
 -- the least such header
-abbrev pub conflict_of : Headers → List (List Entry) → Found
+abbrev pub conflict_of : Headers → List (List Entry) → Option Header
 conflict_of hs ps = least hs (lacking ps)
 
 -- ---- rule 4
@@ -178,11 +176,11 @@ pub data Merging : Type 0 where
   merged : List Entry → Merging
 
 -- rules 3 and 4 for the working list
-abbrev pub settled : Headers → Found → List Entry → Merging
-settled hs (At h) w = refused (Conflict h)
-settled hs Nothing w = merged (struck hs w)
+abbrev pub settled : Headers → Option Header → List Entry → Merging
+settled hs (Some h) w = refused (Conflict h)
+settled hs None w = merged (struck hs w)
 
-abbrev pub finished : Headers → Working → Found → Merging
+abbrev pub finished : Headers → Working → Option Header → Merging
 finished hs (list w) c = settled hs c w
 finished hs crowded c = refused Crowded
 

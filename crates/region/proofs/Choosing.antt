@@ -1,6 +1,6 @@
 -- What the code's branches show of the row that is picked.
 -- Assumes nothing.
-use Rattle.std.proofs.Common.{◌≡◌, ℕ, zero, suc, ◌+◌, ◌-◌, ◌*◌, ◌/◌, ◌<◌, ◌≤◌, Bool, true, false, not, ◌&&◌, leb, List, ◌∷◌, ◌++◌, length, sym, refl, ap, ◌∙◌, subst, inl, inr, arith, length-append, leb-true}
+use Rattle.std.proofs.Common.{◌≡◌, ℕ, zero, suc, ◌+◌, ◌-◌, ◌*◌, ◌/◌, ◌<◌, ◌≤◌, Bool, true, ◌&&◌, leb, List, ◌++◌, length, sym, refl, ap, ◌∙◌, subst, Some, arith, length-append, leb-true}
 use mathlib.Core.Bool.{and-false}
 use Rattle.policy.specs.declared.entry.Entry.{Entry}
 use Rattle.policy.specs.Row.{Row}
@@ -8,17 +8,15 @@ use Rattle.policy.specs.Box.{Range, within, inside}
 use Rattle.policy.specs.steps.Boxes.{lows}
 use Rattle.policy.specs.Header.{arity, fields, header, Box, lies}
 use Rattle.policy.specs.Policy.{missed}
-use Rattle.policy.proofs.Conjunctions.{paired}
-use Rattle.policy.proofs.Bool.{clash, and_intro, and_left, and_right}
+use Rattle.policy.proofs.Bool.{and_intro, and_left, and_right}
 use Rattle.policy.proofs.Box.{within_by, low_le, le_high}
-use Rattle.policy.proofs.Policy.{missed_append, missed_cons}
+use Rattle.policy.proofs.Policy.{missed_append}
 use Rattle.policy.proofs.Slices.{length_rows}
-use Rattle.region.specs.declared.pick.Choice.{Choice}
 use Rattle.region.specs.declared.pick.Picked.{Picked}
 use Rattle.region.specs.declared.pick.Picked.TheVariants.{Held, Free, Covered}
 use Rattle.policy.specs.Sides.{box_of}
-use Rattle.policy.specs.steps.Rows.{row_size, row_at, rows_from, rows_in}
-use Rattle.region.specs.steps.Corner.{holds_corner, reaches, Covers, Picks, number_of, shifted, HoldsLast, Chooses, Better}
+use Rattle.policy.specs.steps.Rows.{row_size, rows_from, rows_in}
+use Rattle.region.specs.steps.Corner.{holds_corner, reaches, Covers, Picks, number_of, shifted, HoldsLast, Chooses}
 use Rattle.region.proofs.Members.{catches, in_left, in_right, row_in}
 
 -- ---- two lists
@@ -62,36 +60,6 @@ inside_all (suc k) s b x i r j =
 abbrev pub Passed : List ℕ → ℕ → Row ℕ arity → ℕ → Type 0
 Passed s n x i = missed (rows_from s (row_size * i) (n - i)) (header x) ≡ true
 
-module _ (s : List ℕ) (n : ℕ) (x : Row ℕ arity) where
-  pub passed_none : Passed s n x n
-  passed_none = ap (λ (j : ℕ). missed (rows_from s (row_size * n) j) (header x)) (none_left n)
-    where
-      none_left : (n : ℕ) → n - n ≡ 0
-      none_left n = omega arith
-
-  module _ (i : ℕ) (t : Bool) (l : i ≤ n) (c : Passed s n x i) (e : t ≡ inside arity (box_of s (row_size * (i - 1))) x) where
-    pub passed_more : 0 < i → t ≡ false → Passed s n x (i - 1)
-    passed_more m p =
-        ap (λ (j : ℕ). missed (rows_from s (row_size * (i - 1)) j) (header x)) (one_more n i l m)
-        ∙ ap (λ (j : ℕ). missed (row_at s (row_size * (i - 1)) ∷ rows_from s j (n - i)) (header x)) (next_at i m)
-        ∙ missed_cons (row_at s (row_size * (i - 1))) (rows_from s (row_size * i) (n - i)) (header x)
-        ∙ and_intro (ap not (sym e ∙ p)) c
-      where
-        one_more : (n i : ℕ) → i ≤ n → 0 < i → n - (i - 1) ≡ suc (n - i)
-        one_more n i l m = omega arith
-
-        next_at : (i : ℕ) → 0 < i → row_size * (i - 1) + row_size ≡ row_size * i
-        next_at i m = omega arith
-
-    pub last_found : t ≡ true → HoldsLast s n x i
-    last_found p = (l, (λ _. sym e ∙ p, c))
-
-  pub last_none : (i : ℕ) → i ≤ 0 → Passed s n x i → HoldsLast s n x 0
-  last_none i l c = (omega arith, (λ m. absurd (omega arith), ap (λ (j : ℕ). missed (rows_from s (row_size * j) (n - j)) (header x)) (sym (at_zero i l)) ∙ c))
-    where
-      at_zero : (k : ℕ) → k ≤ 0 → k ≡ 0
-      at_zero k l = omega arith
-
 module _ (s : List ℕ) (b : Box) where
   abbrev count : ℕ
   count = length s / row_size
@@ -107,34 +75,13 @@ module _ (s : List ℕ) (b : Box) where
   number_covers r l o w h i =
       catches (rows_in s) r (number_held r l o).0 h (ap (λ (p : Box). lies p h) (row_in s r l) ∙ inside_all arity (box_of s (row_size * r)) b (fields h) o w i)
 
-  -- where the last of the first i rows holds the corner
-  module _ (i : ℕ) (m : i ≤ count) (h : 0 < i → holds_corner (box_of s (row_size * (i - 1))) b ≡ true) (l : 0 < i) where
-    -- and reaches the ends
-    pub last_covers : reaches arity (box_of s (row_size * (i - 1))) b ≡ true → Covers (rows_in s) b
-    last_covers w = number_covers (i - 1) (omega arith) (h l) w
-
-    -- and is the first choice
-    pub choose_first : Chooses s b (i - 1) false
-    choose_first = (omega arith, (h l, λ t. clash t refl))
-
-    -- or a further one
-    pub choose_better : (c r : Choice) → Chooses s b c.number c.covers → Better (i - 1) c r → Chooses s b r.number r.covers
-    choose_better c r k (inl q) = subst (λ (p : ℕ × Bool). Chooses s b p.0 p.1) (sym (paired q.0 q.1)) choose_first
-    choose_better c r k (inr q) = subst (λ (d : Choice). Chooses s b d.number d.covers) (sym q) k
+  -- the last row that holds the corner reaches the ends
+  pub last_covers : (i : ℕ) → HoldsLast s count (lows arity b) (Some i) → reaches arity (box_of s (row_size * i)) b ≡ true → Covers (rows_in s) b
+  last_covers i h w = number_covers i h.0 h.1.0 w
 
   -- a choice that is asked whether it reaches the ends
   pub choose_with_cover : (r : ℕ) (old new : Bool) → Chooses s b r old → new ≡ reaches arity (box_of s (row_size * r)) b → Chooses s b r new
   choose_with_cover r old new c e = (c.0, (c.1.0, λ t. number_covers r c.0 c.1.0 (sym e ∙ t)))
-
-  -- where none holds it
-  pub none_holds : (i : ℕ) → i ≡ 0 → HoldsLast s count (lows arity b) i → missed (rows_in s) (header (lows arity b)) ≡ true
-  none_holds i e h =
-      ap (λ (j : ℕ). missed (rows_from s 0 j) (header (lows arity b))) (sym (less_none count))
-      ∙ ap (λ (j : ℕ). missed (rows_from s (row_size * j) (count - j)) (header (lows arity b))) (sym e)
-      ∙ h.1.1
-    where
-      less_none : (n : ℕ) → n - 0 ≡ n
-      less_none n = omega arith
 
 -- what one list picks, where the other has no row that holds the corner
 pub picks_first : (es ds : List Entry) (b : Box) (p : Picked) → Picks es b p → missed ds (header (lows arity b)) ≡ true → Picks (es ++ ds) b p
@@ -158,14 +105,6 @@ picked_few es b (Held i) y = few i (length es) y.0
     few i n l = omega arith
 picked_few es b Free y = omega arith
 picked_few es b Covered y = omega arith
-
--- the pick of a list behind another
-module _ (n i : ℕ) (p : Picked) (e : p ≡ Held i) where
-  pub shifted_held : Held (n + i) ≡ shifted n p
-  shifted_held = ap (shifted n) (sym e)
-
-  pub shifted_fits : (m : ℕ) → n + number_of p < m → n + i < m
-  shifted_fits m l = subst (λ (k : ℕ). n + k < m) (ap number_of e) l
 
 -- behind the rows of a slice
 pub picks_behind : (a b : List ℕ) (x : Box) (i : ℕ) → i < length b / row_size → holds_corner (box_of b (row_size * i)) x ≡ true → Picks (rows_in a ++ rows_in b) x (Held (length a / row_size + i))

@@ -1,16 +1,13 @@
 -- The box of everything holds every header, so a box is searched by its part in it. Over any set of headers.
 -- Assumes nothing.
-use Rattle.std.proofs.Common.{◌≡◌, ℕ, ◌+◌, ◌/◌, ◌≤◌, Bool, true, not, ◌&&◌, List, [], ◌++◌, length, sym, refl, ap, ◌∙◌, subst, append-nil}
+use Rattle.std.specs.Prelude.{None, Option}
+use Rattle.std.proofs.Common.{◌≡◌, ℕ, ◌+◌, ◌/◌, ◌≤◌, Bool, true, not, ◌&&◌, List, ◌++◌, length, sym, refl, ap, ◌∙◌, subst}
 use mathlib.Core.Bool.{and-true}
 use Rattle.policy.specs.declared.header.Header.{Header}
-use Rattle.policy.specs.declared.header.Found.{Found}
-use Rattle.policy.specs.declared.header.Found.TheVariants.{Nothing}
-use Rattle.policy.specs.declared.entry.Entry.{Entry}
 use Rattle.policy.specs.Box.{inside, proper, meet}
 use Rattle.policy.specs.Header.{arity, fields, Box, lies, Headers, sizes, everything}
 use Rattle.policy.specs.steps.Findings.{lesser}
 use Rattle.policy.specs.Least.{least, least_in}
-use Rattle.policy.specs.Policy.{missed}
 use Rattle.policy.specs.steps.Rows.{row_size, rows_in}
 use Rattle.policy.proofs.Bool.{not_true, and_right}
 use Rattle.policy.proofs.Box.{meet_is}
@@ -27,7 +24,7 @@ pub least_everywhere : (hs : Headers) (P : Header → Bool) → least_in hs ever
 unfolding least_in
 least_everywhere hs P = agree hs (λ h. lies everything h && P h) P λ h a. ap (◌&& P h) (in_everything hs h a)
 
-pub least_gap : (hs : Headers) (P : Header → Bool) (b : Box) (r : Found) → b ≡ everything → r ≡ lesser (least_in hs b P) Nothing → r ≡ least hs P
+pub least_gap : (hs : Headers) (P : Header → Bool) (b : Box) (r : Option Header) → b ≡ everything → r ≡ lesser (least_in hs b P) None → r ≡ least hs P
 least_gap hs P b r e f = f ∙ lesser_last (least_in hs b P) ∙ ap (λ (b : Box). least_in hs b P) e ∙ least_everywhere hs P
 
 -- ---- the part of a box in it
@@ -48,16 +45,12 @@ module _ (x p q : Box) (e : q ≡ everything) (m : p ≡ meet arity x q) where
         ∙ (unfold least_in in agree hs (λ h. lies (meet arity x everything) h && P h) (λ h. lies x h && P h) λ h a.
         ap (◌&& P h) (meet_is arity x everything (fields h) ∙ ap (lies x h &&◌) (in_everything hs h a) ∙ and-true (lies x h)))
 
-    pub part_searched : (best r : Found) → r ≡ lesser (least_in hs p P) best → r ≡ lesser (least_in hs x P) best
-    part_searched best r f = f ∙ ap (λ (r : Found). lesser r best) part_same
+    pub part_searched : (best r : Option Header) → r ≡ lesser (least_in hs p P) best → r ≡ lesser (least_in hs x P) best
+    part_searched best r f = f ∙ ap (λ (r : Option Header). lesser r best) part_same
 
-    pub part_crossed : (best : Found) (t : Bool) → t ≡ proper arity p → not t ≡ true → best ≡ lesser (least_in hs x P) best
-    part_crossed best t f n = ap (λ (r : Found). lesser r best) (sym (crossed_none hs P p (sym f ∙ not_true n)) ∙ part_same)
+    pub part_crossed : (best : Option Header) (t : Bool) → t ≡ proper arity p → not t ≡ true → best ≡ lesser (least_in hs x P) best
+    part_crossed best t f n = ap (λ (r : Option Header). lesser r best) (sym (crossed_none hs P p (sym f ∙ not_true n)) ∙ part_same)
 
 -- no more rows meet a box than there are
 pub rows_few : (a b : List ℕ) (p : Box) → meeting (rows_in a ++ rows_in b) p ≤ length a / row_size + length b / row_size
 rows_few a b p = subst (λ (n : ℕ). meeting (rows_in a ++ rows_in b) p ≤ n) (length_two a b) (meeting_all (rows_in a ++ rows_in b) p)
-
--- no rows of a second list
-pub one_list : (es : List Entry) (x : Box) (hs : Headers) (best r : Found) → r ≡ lesser (least_in hs x (missed (es ++ []))) best → r ≡ lesser (least_in hs x (missed es)) best
-one_list es x hs best r e = e ∙ ap (λ (ds : List Entry). lesser (least_in hs x (missed ds)) best) (append-nil es)

@@ -1,19 +1,19 @@
 -- What the code shows of a field by number: a box with one field changed, and the search for a field to cut.
 -- Assumes nothing.
-use Rattle.std.proofs.Common.{◌≡◌, ℕ, zero, suc, ◌+◌, ◌-◌, ◌*◌, ◌<◌, ◌≤◌, min, max, Bool, true, false, cond, ltb, leb, ◌⊎◌, List, length, get_or, set, sym, refl, ap, ◌∙◌, subst, inl, inr, add-zero, arith, get_or-set_other, get_or-set_same, ltb-false, ltb-true, lt-ltb, le-leb}
+use Rattle.std.specs.Option.{option_map}
+use Rattle.std.proofs.Common.{◌≡◌, ℕ, zero, suc, ◌+◌, ◌*◌, ◌<◌, ◌≤◌, min, max, Bool, true, cond, leb, List, length, get_or, set, Option, Some, None, sym, refl, ap, ◌∙◌, add-zero, arith, get_or-set_other, get_or-set_same, lt-ltb, le-leb}
 use Rattle.policy.specs.Row.{Row}
 use Rattle.policy.specs.Box.{Range, range, within, inside}
 use Rattle.policy.specs.steps.Boxes.{lows}
 use Rattle.policy.specs.steps.Cut.{empty, above}
-use Rattle.policy.specs.Header.{arity, Box}
+use Rattle.policy.specs.Header.{arity}
 use Rattle.policy.proofs.Bool.{and_left, and_right}
 use Rattle.policy.proofs.Conjunctions.{ends_are, paired}
 use Rattle.policy.proofs.Box.{le_high}
-use Rattle.region.specs.declared.cut.Candidate.{Candidate}
 use Rattle.policy.specs.Sides.{row_of, field, box_of}
 use Rattle.policy.specs.steps.Rows.{sides}
-use Rattle.region.specs.steps.Corner.{holds_corner, reaches}
-use Rattle.region.specs.steps.Pieces.{up_to, at_field, Short, Next, Offered}
+use Rattle.region.specs.steps.Corner.{holds_corner}
+use Rattle.region.specs.steps.Pieces.{up_to, at_field, Short, Next}
 use Rattle.policy.proofs.Every.{every_passed, row_ext}
 use Rattle.region.proofs.Holding.{reaches_every}
 
@@ -164,62 +164,13 @@ module _ (b s : List ℕ) (f x : ℕ) (n : length b ≡ sides) (o : Short arity 
 
 -- ---- the search for a field to cut, from the last down
 
--- c is a field in which s ends before b, or arity, and s ends before b in none from f on
-abbrev pub NextFrom : List ℕ → List ℕ → ℕ → ℕ → Type 0
-NextFrom b s f c =
-    ((c < arity) × ((field s 0 c).high < (field b 0 c).high))
-    ⊎ ((c ≡ arity) × ((j : ℕ) → f ≤ j → j < arity → (field b 0 j).high ≤ (field s 0 j).high))
+-- a field in which s ends before b; or it does in none from f on
+abbrev pub NextFrom : List ℕ → List ℕ → ℕ → Option (ℕ × ℕ) → Type 0
+NextFrom b s f (Some c) = (c.0 < arity) × ((field s 0 c.0).high < (field b 0 c.0).high)
+NextFrom b s f None = (j : ℕ) → f ≤ j → j < arity → (field b 0 j).high ≤ (field s 0 j).high
 
-module _ (b s : List ℕ) where
-  pub next_none : NextFrom b s arity arity
-  next_none = inr (refl, λ j l m. absurd (omega arith))
-
-  pub next_more : (f x y : ℕ) (c r : Candidate) → 0 < f → f ≤ arity → NextFrom b s f c.field → x ≡ (field s 0 (f - 1)).high → y ≡ (field b 0 (f - 1)).high → Offered c (f - 1) x y r → NextFrom b s (f - 1) r.field
-  next_more f x y c r l m n e g (inl o) =
-      inl (is_field r.field o.0, subst (λ (j : ℕ). (field s 0 j).high < (field b 0 j).high) (sym o.0) (less x y (field s 0 (f - 1)).high (field b 0 (f - 1)).high e g o.1))
-    where
-      is_field : (c : ℕ) → c ≡ f - 1 → c < arity
-      is_field c e = omega arith
-
-      less : (x y m n : ℕ) → x ≡ m → y ≡ n → x < y → m < n
-      less x y m n e g l = omega arith
-  next_more f x y c r l m n e g (inr o) = subst (λ (d : Candidate). NextFrom b s (f - 1) d.field) (sym o.0) (go n o.1)
-    where
-      at_last : (j : ℕ) → f - 1 ≤ j → j < f → f - 1 ≡ j
-      at_last j p q = omega arith
-
-      le : (x y m n : ℕ) → x ≡ m → y ≡ n → y ≤ x → n ≤ m
-      le x y m n e g l = omega arith
-
-      more : ((j : ℕ) → f ≤ j → j < arity → (field b 0 j).high ≤ (field s 0 j).high) → y ≤ x → (j : ℕ) → f - 1 ≤ j → j < arity → (t : Bool) → ltb j f ≡ t → (field b 0 j).high ≤ (field s 0 j).high
-      more p q j i k true t = subst (λ (j : ℕ). (field b 0 j).high ≤ (field s 0 j).high) (at_last j i (ltb-true j f t)) (le x y (field s 0 (f - 1)).high (field b 0 (f - 1)).high e g q)
-      more p q j i k false t = p j (ltb-false j f t) k
-
-      go : NextFrom b s f c.field → (c.field ≡ arity → ⊥) ⊎ (y ≤ x) → NextFrom b s (f - 1) c.field
-      go (inl p) q = inl p
-      go (inr p) (inl q) = absurd (q p.0)
-      go (inr p) (inr q) = inr (p.0, λ j i k. more p.1 q j i k (ltb j f) refl)
-
-  pub next_is : (f c : ℕ) → f ≤ 0 → NextFrom b s f c → Next (box_of b 0) (box_of s 0) c
-  unfolding box_of
-  next_is f c l (inl p) = inl (p.0, ends_short arity c (field b 0) (field s 0) p.0 p.1)
-  next_is f c l (inr p) =
-      inr (p.0, sym (every_passed arity (λ j. leb (field b 0 j).high (field s 0 j).high) (λ j m. le-leb (field b 0 j).high (field s 0 j).high (p.1 j (least f j l) m)) ∙ reaches_every arity (field s 0) (field b 0)))
-    where
-      least : (f j : ℕ) → f ≤ 0 → f ≤ j
-      least f j l = omega arith
-
--- what the search found
-pub next_short : (f : ℕ) (b s : Box) → Next b s f → f < arity → Short arity f b s
-next_short f b s (inl p) l = p.1
-next_short f b s (inr p) l = absurd (no f p.0 l)
-  where
-    no : (f : ℕ) → f ≡ arity → f < arity → ⊥
-    no f e l = omega arith
-
-pub next_reaches : (f : ℕ) (b s : Box) → Next b s f → arity ≤ f → reaches arity s b ≡ true
-next_reaches f b s (inl p) l = absurd (no f p.0 l)
-  where
-    no : (f : ℕ) → f < arity → arity ≤ f → ⊥
-    no f e l = omega arith
-next_reaches f b s (inr p) l = p.1
+pub next_is : (b s : List ℕ) (f : ℕ) (r : Option (ℕ × ℕ)) → f ≤ 0 → NextFrom b s f r → Next (box_of b 0) (box_of s 0) (option_map (λ c. c.0) r)
+unfolding box_of
+next_is b s f (Some c) l p = (p.0, ends_short arity c.0 (field b 0) (field s 0) p.0 p.1)
+next_is b s f None l p =
+    sym (every_passed arity (λ j. leb (field b 0 j).high (field s 0 j).high) (λ j m. le-leb (field b 0 j).high (field s 0 j).high (p j (omega arith) m)) ∙ reaches_every arity (field s 0) (field b 0))

@@ -1,14 +1,12 @@
 -- What the loops over the fields show of a row that holds the low corner of a box, or its end.
 -- Assumes nothing.
-use Rattle.std.proofs.Common.{◌≡◌, ℕ, zero, suc, ◌+◌, ◌<◌, ◌≤◌, Bool, true, false, not, ◌&&◌, leb, List, sym, refl, ap, ◌∙◌, ap₂, le-leb}
+use Rattle.std.proofs.Common.{◌≡◌, ℕ, zero, suc, ◌<◌, ◌≤◌, Bool, true, false, ◌&&◌, leb, List, refl, ap, ◌∙◌, le-leb}
 use borrow.Author.Tests.{lt-leb}
 use Rattle.policy.specs.Box.{Range, within, inside}
 use Rattle.policy.specs.steps.Boxes.{lows}
 use Rattle.policy.specs.Header.{arity}
 use Rattle.policy.specs.Sides.{row_of, field, box_of}
-use Rattle.policy.proofs.Bool.{not_true, not_false}
-use Rattle.policy.proofs.Every.{every, Passed, one_fails, inside_every}
-use Rattle.policy.proofs.Loops.{passed_more, all_passed}
+use Rattle.policy.proofs.Every.{every, every_passed, one_fails, inside_every}
 use Rattle.policy.proofs.Conjunctions.{paired}
 use Rattle.region.specs.steps.Corner.{reaches}
 
@@ -36,28 +34,20 @@ module _ (s : List ℕ) (at : ℕ) (b : List ℕ) where
   unfolding box_of
   reaches_is = reaches_every arity (field s at) (field b 0)
 
--- ---- the loops: a field stops one, a field lets it go on, and it ends where all have passed
+-- ---- what asks every field: a test that is true of each is true of the row, and one field that fails it decides
 
-module _ (s : List ℕ) (at : ℕ) (b : List ℕ) (f : ℕ) where
-  module _ (l x h : ℕ) (t : Bool) (p : l ≡ (field s at f).low) (q : x ≡ (field b 0 f).low) (r : h ≡ (field s at f).high) (e : t ≡ (leb l x && leb x h)) where
-    holds_here : t ≡ holds_at s at b f
-    holds_here = e ∙ ap₂ ◌&&◌ (ap₂ leb p q) (ap₂ leb q r)
+every_is : (k : ℕ) (t : ℕ → Bool) (r : Bool) → (r ≡ true → (j : ℕ) → j < k → t j ≡ true) → (r ≡ false → (j : ℕ) × (j < k) × (t j ≡ false)) → r ≡ every k t
+every_is k t true p q = every_passed k t (p refl)
+every_is k t false p q = let f = q refl in one_fails k f.0 t f.1 f.2
 
-    pub corner_missed : f < arity → not t ≡ true → false ≡ inside arity (box_of s at) (lows arity (box_of b 0))
-    corner_missed m n = one_fails arity f (holds_at s at b) m (sym holds_here ∙ not_true n) ∙ holds_is s at b
+module _ (s : List ℕ) (at : ℕ) (b : List ℕ) (r : Bool) where
+  pub corner_is : (r ≡ true → (j : ℕ) → j < arity → holds_at s at b j ≡ true) → (r ≡ false → (j : ℕ) × (j < arity) × (holds_at s at b j ≡ false))
+      → r ≡ inside arity (box_of s at) (lows arity (box_of b 0))
+  corner_is p q = every_is arity (holds_at s at b) r p q ∙ holds_is s at b
 
-    pub corner_more : not t ≡ false → Passed (holds_at s at b) f → Passed (holds_at s at b) (f + 1)
-    corner_more n c = passed_more (holds_at s at b) f c (sym holds_here ∙ not_false n)
-
-  pub corner_held : arity ≤ f → Passed (holds_at s at b) f → true ≡ inside arity (box_of s at) (lows arity (box_of b 0))
-  corner_held l c = all_passed (holds_at s at b) arity f l c ∙ holds_is s at b
-
-  module _ (h e : ℕ) (p : h ≡ (field s at f).high) (q : e ≡ (field b 0 f).high) where
-    pub end_missed : f < arity → h < e → false ≡ reaches arity (box_of s at) (box_of b 0)
-    end_missed m l = one_fails arity f (reaches_at s at b) m (ap₂ leb (sym q) (sym p) ∙ lt-leb e h l) ∙ reaches_is s at b
-
-    pub end_more : e ≤ h → Passed (reaches_at s at b) f → Passed (reaches_at s at b) (f + 1)
-    end_more l c = passed_more (reaches_at s at b) f c (ap₂ leb (sym q) (sym p) ∙ le-leb e h l)
-
-  pub ends_reached : arity ≤ f → Passed (reaches_at s at b) f → true ≡ reaches arity (box_of s at) (box_of b 0)
-  ends_reached l c = all_passed (reaches_at s at b) arity f l c ∙ reaches_is s at b
+  pub ends_are : (r ≡ true → (j : ℕ) → j < arity → (field b 0 j).high ≤ (field s at j).high) → (r ≡ false → (j : ℕ) × (j < arity) × ((field s at j).high < (field b 0 j).high))
+      → r ≡ reaches arity (box_of s at) (box_of b 0)
+  ends_are p q =
+      every_is arity (reaches_at s at b) r (λ e j l. le-leb (field b 0 j).high (field s at j).high (p e j l))
+      (λ e. let f = q e in (f.0, f.1, lt-leb (field b 0 f.0).high (field s at f.0).high f.2))
+      ∙ reaches_is s at b

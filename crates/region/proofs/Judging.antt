@@ -1,17 +1,13 @@
 -- What the code's branches show of a search by the entries of a list.
 -- Assumes nothing.
-use Rattle.std.proofs.Common.{◌≡◌, ℕ, suc, ◌+◌, ◌-◌, ◌*◌, ◌/◌, ◌<◌, ◌≤◌, min, Bool, true, false, cond, not, ◌&&◌, eqb, List, [], ◌∷◌, ◌++◌, length, take, sym, refl, ap, ◌∙◌, ap₂, append_assoc, append-nil, arith, length-take}
+use Rattle.std.specs.Prelude.{None, Option, Some}
+use Rattle.std.proofs.Common.{◌≡◌, ℕ, suc, ◌+◌, ◌-◌, ◌*◌, ◌/◌, ◌<◌, ◌≤◌, min, Bool, true, false, cond, ◌&&◌, List, [], ◌∷◌, ◌++◌, length, take, sym, refl, ap, ◌∙◌, ap₂, append_assoc, append-nil, arith, length-take}
 use Rattle.policy.specs.declared.header.Header.{Header}
-use Rattle.policy.specs.declared.header.Found.{Found}
-use Rattle.policy.specs.declared.header.Found.TheVariants.{At, Nothing}
 use Rattle.policy.specs.declared.entry.Entry.{Entry}
-use Rattle.policy.specs.declared.entry.Caught.{Caught}
-use Rattle.policy.specs.declared.entry.Caught.TheVariants.{By}
 use Rattle.policy.specs.Box.{meet, proper}
 use Rattle.policy.specs.Header.{arity, Box, Headers}
 use Rattle.policy.specs.steps.Findings.{lesser}
 use Rattle.policy.specs.Least.{least_in}
-use Rattle.policy.specs.Actions.{subset}
 use Rattle.policy.specs.Entry.{selector}
 use Rattle.policy.specs.Policy.{catcher, missed}
 use Rattle.policy.specs.Refusals.{accepted}
@@ -19,24 +15,12 @@ use Rattle.policy.proofs.Bool.{and_left}
 use Rattle.policy.proofs.Branch.{crossed_none}
 use Rattle.policy.proofs.Slices.{length_rows, rows_split, rows_take}
 use Rattle.region.specs.declared.treated.Sets.{Sets}
-use Rattle.region.specs.declared.treated.Sets.TheVariants.{Same, Other, Lacking}
 use Rattle.policy.specs.Sides.{box_of}
 use Rattle.policy.specs.steps.Rows.{row_size, row_at, rows_from, rows_in}
 use Rattle.region.specs.Search.{with_catcher}
 use Rattle.region.specs.steps.Treated.{wanted, finding_answer}
 use Rattle.region.proofs.Catching.{left_caught_by}
 use Rattle.region.proofs.Uses.{left_in, judged_wanted, judged_passed, judged_end, judged_exhausted}
-
--- ---- is_wanted
-
-pub wanted_same : (q : Sets) (s a : ℕ) → q ≡ Same s → eqb a s ≡ wanted q a
-wanted_same q s a e = ap (λ (q : Sets). wanted q a) (sym e)
-
-pub wanted_other : (q : Sets) (s a : ℕ) → q ≡ Other s → not (eqb a s) ≡ wanted q a
-wanted_other q s a e = ap (λ (q : Sets). wanted q a) (sym e)
-
-pub wanted_lacking : (q : Sets) (s a : ℕ) (t : Bool) → q ≡ Lacking s → t ≡ subset s a → not t ≡ wanted q a
-wanted_lacking q s a t e p = ap not p ∙ ap (λ (q : Sets). wanted q a) (sym e)
 
 -- ---- the entries before a place, and from it on
 
@@ -82,7 +66,7 @@ module _ (s : List ℕ) where
 -- ---- the loop
 
 -- what is still to be found behind the front and the first i entries
-abbrev pub Left : Headers → Box → Sets → Bool → List Entry → List ℕ → ℕ → Found
+abbrev pub Left : Headers → Box → Sets → Bool → List Entry → List ℕ → ℕ → Option Header
 Left hs x q d front s i = left_in hs x q d (front ++ rows_from s 0 i) (rows_from s (row_size * i) (length s / row_size - i))
 
 module _ (hs : Headers) (x : Box) (q : Sets) (d : Bool) (front : List Entry) (s : List ℕ) where
@@ -96,8 +80,8 @@ module _ (hs : Headers) (x : Box) (q : Sets) (d : Bool) (front : List Entry) (s 
       all n = omega arith
 
   -- one entry more
-  left_again : (i at : ℕ) (found new : Found) → i < length s / row_size → at ≡ row_size * i
-      → new ≡ lesser (cond (wanted q (row_at s at).actions) (least_in hs (meet arity x (box_of s at)) (missed (front ++ rows_in (take at s)))) Nothing) found
+  left_again : (i at : ℕ) (found new : Option Header) → i < length s / row_size → at ≡ row_size * i
+      → new ≡ lesser (cond (wanted q (row_at s at).actions) (least_in hs (meet arity x (box_of s at)) (missed (front ++ rows_in (take at s)))) None) found
       → lesser (Left hs x q d front s i) found ≡ lesser (Left hs x q d front s (i + 1)) new
   left_again i at found new l e n =
       ap (λ (p : List Entry). lesser (left_in hs x q d (mask i) p) found) (first_of s i l)
@@ -105,8 +89,8 @@ module _ (hs : Headers) (x : Box) (q : Sets) (d : Bool) (front : List Entry) (s 
       ∙ ap (λ (f : List Entry). lesser (left_in hs x q d f (from s (i + 1))) part) more
       ∙ ap (lesser (Left hs x q d front s (i + 1))) (sym here)
     where
-      part : Found
-      part = lesser (cond (wanted q (row_at s (row_size * i)).actions) (least_in hs (meet arity x (selector (row_at s (row_size * i)))) (missed (mask i))) Nothing) found
+      part : Option Header
+      part = lesser (cond (wanted q (row_at s (row_size * i)).actions) (least_in hs (meet arity x (selector (row_at s (row_size * i)))) (missed (mask i))) None) found
 
       more : mask i ++ row_at s (row_size * i) ∷ [] ≡ mask (i + 1)
       more = append_assoc front (rows_from s 0 i) (row_at s (row_size * i) ∷ []) ∙ ap (front ++◌) (sym (firsts_more s i))
@@ -117,21 +101,21 @@ module _ (hs : Headers) (x : Box) (q : Sets) (d : Bool) (front : List Entry) (s 
       here : new ≡ part
       here =
           n
-          ∙ ap (λ (f : List Entry). lesser (cond (wanted q (row_at s at).actions) (least_in hs (meet arity x (box_of s at)) (missed (front ++ f))) Nothing) found) (firsts_in s i at (few l) e)
-          ∙ ap (λ (at : ℕ). lesser (cond (wanted q (row_at s at).actions) (least_in hs (meet arity x (box_of s at)) (missed (mask i))) Nothing) found) e
+          ∙ ap (λ (f : List Entry). lesser (cond (wanted q (row_at s at).actions) (least_in hs (meet arity x (box_of s at)) (missed (front ++ f))) None) found) (firsts_in s i at (few l) e)
+          ∙ ap (λ (at : ℕ). lesser (cond (wanted q (row_at s at).actions) (least_in hs (meet arity x (box_of s at)) (missed (mask i))) None) found) e
 
       step : (t : Bool) → wanted q (row_at s (row_size * i)).actions ≡ t
           → lesser (left_in hs x q d (mask i) (row_at s (row_size * i) ∷ from s (i + 1))) found
           ≡ lesser (left_in hs x q d (mask i ++ row_at s (row_size * i) ∷ []) (from s (i + 1))) part
       step true w =
           judged_wanted hs x q d (mask i) (row_at s (row_size * i)) (from s (i + 1)) found w
-          ∙ ap (λ (t : Bool). lesser (left_in hs x q d (mask i ++ row_at s (row_size * i) ∷ []) (from s (i + 1))) (lesser (cond t (least_in hs (meet arity x (selector (row_at s (row_size * i)))) (missed (mask i))) Nothing) found)) (sym w)
+          ∙ ap (λ (t : Bool). lesser (left_in hs x q d (mask i ++ row_at s (row_size * i) ∷ []) (from s (i + 1))) (lesser (cond t (least_in hs (meet arity x (selector (row_at s (row_size * i)))) (missed (mask i))) None) found)) (sym w)
       step false w =
           judged_passed hs x q d (mask i) (row_at s (row_size * i)) (from s (i + 1)) found w
-          ∙ ap (λ (t : Bool). lesser (left_in hs x q d (mask i ++ row_at s (row_size * i) ∷ []) (from s (i + 1))) (lesser (cond t (least_in hs (meet arity x (selector (row_at s (row_size * i)))) (missed (mask i))) Nothing) found)) (sym w)
+          ∙ ap (λ (t : Bool). lesser (left_in hs x q d (mask i ++ row_at s (row_size * i) ∷ []) (from s (i + 1))) (lesser (cond t (least_in hs (meet arity x (selector (row_at s (row_size * i)))) (missed (mask i))) None) found)) (sym w)
 
   -- its set is wanted, it has a part of x, and it was searched; or not
-  module _ (i at : ℕ) (found : Found) (t : Bool) (l : i < length s / row_size) (e : at ≡ row_size * i)
+  module _ (i at : ℕ) (found : Option Header) (t : Bool) (l : i < length s / row_size) (e : at ≡ row_size * i)
       (w : t ≡ (wanted q (row_at s at).actions && proper arity (meet arity x (box_of s at)))) where
     abbrev wants : Bool
     wants = wanted q (row_at s at).actions
@@ -139,23 +123,23 @@ module _ (hs : Headers) (x : Box) (q : Sets) (d : Bool) (front : List Entry) (s 
     abbrev inner : Box
     inner = meet arity x (box_of s at)
 
-    abbrev part : Found
+    abbrev part : Option Header
     part = least_in hs (meet arity x (box_of s at)) (missed (front ++ rows_in (take at s)))
 
-    pub left_searched : (new : Found) → t ≡ true → new ≡ lesser (least_in hs (meet arity x (box_of s at)) (missed (front ++ rows_in (take at s)))) found
+    pub left_searched : (new : Option Header) → t ≡ true → new ≡ lesser (least_in hs (meet arity x (box_of s at)) (missed (front ++ rows_in (take at s)))) found
         → lesser (Left hs x q d front s i) found ≡ lesser (Left hs x q d front s (i + 1)) new
-    left_searched new y n = left_again i at found new l e (n ∙ ap (λ (t : Bool). lesser (cond t part Nothing) found) (sym (and_left wants (proper arity inner) (sym w ∙ y))))
+    left_searched new y n = left_again i at found new l e (n ∙ ap (λ (t : Bool). lesser (cond t part None) found) (sym (and_left wants (proper arity inner) (sym w ∙ y))))
 
     pub left_passed : t ≡ false → lesser (Left hs x q d front s i) found ≡ lesser (Left hs x q d front s (i + 1)) found
     left_passed n = left_again i at found found l e (go wants (sym w ∙ n))
       where
-        go : (v : Bool) → (v && proper arity inner) ≡ false → found ≡ lesser (cond v part Nothing) found
+        go : (v : Bool) → (v && proper arity inner) ≡ false → found ≡ lesser (cond v part None) found
         go false p = refl
-        go true p = ap (λ (r : Found). lesser r found) (sym (crossed_none hs (missed (front ++ rows_in (take at s))) inner p))
+        go true p = ap (λ (r : Option Header). lesser r found) (sym (crossed_none hs (missed (front ++ rows_in (take at s))) inner p))
 
   -- the entry that was searched catches what was found; if nothing before the end does, it is uncaught
   pub part_caught_by : (i at : ℕ) (h : Header) → i < length s / row_size → at ≡ row_size * i
-      → least_in hs (meet arity x (box_of s at)) (missed (front ++ rows_in (take at s))) ≡ At h → By i ≡ catcher (rows_in s) h
+      → least_in hs (meet arity x (box_of s at)) (missed (front ++ rows_in (take at s))) ≡ Some h → Some i ≡ catcher (rows_in s) h
   part_caught_by i at h l e f =
       left_caught_by hs x front (rows_from s 0 i) (row_at s (row_size * i)) (from s (i + 1)) i h (box_of s (row_size * i)) (length_rows s 0 i) (λ h. refl)
       (sym (ap₂ (λ (at : ℕ) (p : List Entry). least_in hs (meet arity x (box_of s at)) (missed (front ++ p))) e (firsts_in s i at (few l) e)) ∙ f)
@@ -177,7 +161,7 @@ module _ (hs : Headers) (x : Box) (q : Sets) (d : Bool) (front : List Entry) (s 
           ∙ ap (λ (p : List Entry). rows_from s 0 i ++ p) (ap (λ (at : ℕ). rows_from s at (length s / row_size - i)) (from_zero i) ∙ first_of s i l)
 
   -- nothing is left
-  pub left_exhausted : (i at : ℕ) (found : Found) → i < length s / row_size → at ≡ row_size * i
+  pub left_exhausted : (i at : ℕ) (found : Option Header) → i < length s / row_size → at ≡ row_size * i
       → lesser (least_in hs x (missed (front ++ rows_in (take at s)))) found ≡ found → found ≡ lesser (Left hs x q d front s i) found
   left_exhausted i at found l e g =
       sym (judged_exhausted hs x q d (mask i) (from s i) found (ap (λ (f : List Entry). lesser (least_in hs x (missed (front ++ f))) found) (sym (firsts_in s i at (few l) e)) ∙ g))
@@ -186,44 +170,34 @@ module _ (hs : Headers) (x : Box) (q : Sets) (d : Bool) (front : List Entry) (s 
       few l = omega arith
 
   -- the end of the list
-  left_end : (i : ℕ) → i ≡ length s / row_size → Left hs x q d front s i ≡ cond d (least_in hs x (missed (front ++ rows_in s))) Nothing
+  left_end : (i : ℕ) → i ≡ length s / row_size → Left hs x q d front s i ≡ cond d (least_in hs x (missed (front ++ rows_in s))) None
   left_end i e =
       ap (left_in hs x q d (mask i)) (ap (rows_from s (row_size * i)) (none i (length s / row_size) e))
       ∙ judged_end hs x q d (mask i)
-      ∙ ap (λ (j : ℕ). cond d (least_in hs x (missed (mask j))) Nothing) e
+      ∙ ap (λ (j : ℕ). cond d (least_in hs x (missed (mask j))) None) e
     where
       none : (i n : ℕ) → i ≡ n → n - i ≡ 0
       none i n e = omega arith
 
-  pub left_uncaught : (i : ℕ) (found r : Found) → i ≤ length s / row_size → length s / row_size ≤ i → d ≡ true
+  pub left_uncaught : (i : ℕ) (found r : Option Header) → i ≤ length s / row_size → length s / row_size ≤ i → d ≡ true
       → r ≡ lesser (least_in hs x (missed (front ++ rows_in s))) found → r ≡ lesser (Left hs x q d front s i) found
-  left_uncaught i found r l m t e = e ∙ ap (λ (f : Found). lesser f found) (sym (left_end i (omega arith) ∙ ap (λ (t : Bool). cond t (least_in hs x (missed (front ++ rows_in s))) Nothing) t))
+  left_uncaught i found r l m t e = e ∙ ap (λ (f : Option Header). lesser f found) (sym (left_end i (omega arith) ∙ ap (λ (t : Bool). cond t (least_in hs x (missed (front ++ rows_in s))) None) t))
 
-  pub left_none : (i : ℕ) (found : Found) → i ≤ length s / row_size → length s / row_size ≤ i → d ≡ false → found ≡ lesser (Left hs x q d front s i) found
-  left_none i found l m t = ap (λ (f : Found). lesser f found) (sym (left_end i (omega arith) ∙ ap (λ (t : Bool). cond t (least_in hs x (missed (front ++ rows_in s))) Nothing) t))
+  pub left_none : (i : ℕ) (found : Option Header) → i ≤ length s / row_size → length s / row_size ≤ i → d ≡ false → found ≡ lesser (Left hs x q d front s i) found
+  left_none i found l m t = ap (λ (f : Option Header). lesser f found) (sym (left_end i (omega arith) ∙ ap (λ (t : Bool). cond t (least_in hs x (missed (front ++ rows_in s))) None) t))
 
 -- ---- least_treated_behind
 
 -- the front alone leaves nothing
-pub front_exhausts : (hs : Headers) (x : Box) (q : Sets) (d : Bool) (front p : List Entry) (best : Found) (t : Bool) → t ≡ true
+pub front_exhausts : (hs : Headers) (x : Box) (q : Sets) (d : Bool) (front p : List Entry) (best : Option Header) (t : Bool) → t ≡ true
     → (t ≡ true → lesser (least_in hs x (missed (front ++ []))) best ≡ best) → best ≡ lesser (left_in hs x q d front p) best
 front_exhausts hs x q d front p best t e f =
     sym (judged_exhausted hs x q d front p best (ap (λ (es : List Entry). lesser (least_in hs x (missed es)) best) (sym (append-nil front)) ∙ f e))
 
--- ---- with_entry
-
-pub row_part : (hs : Headers) (s : List ℕ) (at n : ℕ) (front : List Entry) (x p : Box) (best found : Found) → n ≡ at → p ≡ meet arity x (box_of s at)
-    → found ≡ lesser (least_in hs p (missed (front ++ rows_in (take n s)))) best
-    → found ≡ lesser (least_in hs (meet arity x (box_of s at)) (missed (front ++ rows_in (take at s)))) best
-row_part hs s at n front x p best found k m f =
-    f
-    ∙ ap (λ (n : ℕ). lesser (least_in hs p (missed (front ++ rows_in (take n s)))) best) k
-    ∙ ap (λ (p : Box). lesser (least_in hs p (missed (front ++ rows_in (take at s)))) best) m
-
 -- ---- a search's answer
 
-pub answer_at : (f : Found) (c : Caught) (h : Header) → f ≡ At h → with_catcher h c ≡ finding_answer f c
-answer_at f c h e = ap (λ (f : Found). finding_answer f c) (sym e)
+pub answer_at : (f : Option Header) (c : Option ℕ) (h : Header) → f ≡ Some h → with_catcher h c ≡ finding_answer f c
+answer_at f c h e = ap (λ (f : Option Header). finding_answer f c) (sym e)
 
-pub answer_none : (f : Found) (c : Caught) → f ≡ Nothing → accepted [] ≡ finding_answer f c
-answer_none f c e = ap (λ (f : Found). finding_answer f c) (sym e)
+pub answer_none : (f : Option Header) (c : Option ℕ) → f ≡ None → accepted [] ≡ finding_answer f c
+answer_none f c e = ap (λ (f : Option Header). finding_answer f c) (sym e)

@@ -1,10 +1,9 @@
 -- The search, computed: what the least header of a box is found by on paper, for worked examples. Over any set of headers.
 -- Assumes nothing.
+use Rattle.std.specs.Prelude.{None, Option, Some}
 use Rattle.std.proofs.Common.{◌≡◌, ℕ, Bool, true, false, cond, not, ◌&&◌, List, [], ◌∷◌, ◌++◌, map, sym, refl, ap, ◌∙◌, ap₂}
 use mathlib.Core.Path.{fun_ext}
 use Rattle.policy.specs.declared.header.Header.{Header}
-use Rattle.policy.specs.declared.header.Found.{Found}
-use Rattle.policy.specs.declared.header.Found.TheVariants.{At, Nothing}
 use Rattle.policy.specs.declared.entry.Entry.{Entry}
 use Rattle.policy.specs.Box.{proper, meet}
 use Rattle.policy.specs.steps.Boxes.{lows}
@@ -29,42 +28,42 @@ abbrev pub answers : List (Box × Bool) → Bool → Header → Bool
 answers [] d h = d
 answers (x ∷ xs) d h = cond (lies x.0 h) x.1 (answers xs d h)
 
-abbrev pub corner_of : Box → Found
-corner_of b = cond (proper arity b) (At (header (lows arity b))) Nothing
+abbrev pub corner_of : Box → Option Header
+corner_of b = cond (proper arity b) (Some (header (lows arity b))) None
 
 -- the least header of b
-abbrev pub corner_in : List Box → Box → Found
+abbrev pub corner_in : List Box → Box → Option Header
 corner_in qs b = minOver (λ q. corner_of (meet arity b q)) qs
 
 abbrev pub proper_ones : List Box → List Box
 proper_ones [] = []
 proper_ones (b ∷ bs) = cond (proper arity b) (b ∷ proper_ones bs) (proper_ones bs)
 
-abbrev pub corner_if : Headers → Bool → Box → Found
-corner_if hs w b = cond w (corner_in hs.boxes b) Nothing
+abbrev pub corner_if : Headers → Bool → Box → Option Header
+corner_if hs w b = cond w (corner_in hs.boxes b) None
 
 -- the least header of b with the answer "yes": of the part in the first box, by its answer; and of the pieces outside it, by the others
-abbrev pub seek : Headers → List (Box × Bool) → Bool → Box → Found
+abbrev pub seek : Headers → List (Box × Bool) → Bool → Box → Option Header
 seek hs [] d b = corner_if hs d b
 seek hs (x ∷ xs) d b = minFrom (corner_if hs x.1 (meet arity b x.0)) (seek hs xs d) (proper_ones (cut arity b x.0))
 
 -- ---- it is the search
 
-min_alike : (z : Found) (f g : Box → Found) (bs : List Box) → ((b : Box) → f b ≡ g b) → minFrom z f bs ≡ minFrom z g bs
+min_alike : (z : Option Header) (f g : Box → Option Header) (bs : List Box) → ((b : Box) → f b ≡ g b) → minFrom z f bs ≡ minFrom z g bs
 min_alike z f g [] e = refl
 min_alike z f g (b ∷ bs) e = ap₂ lesser (e b) (min_alike z f g bs e)
 
-min_proper : (z : Found) (f : Box → Found) (bs : List Box) → ((b : Box) → proper arity b ≡ false → f b ≡ Nothing) → minFrom z f bs ≡ minFrom z f (proper_ones bs)
+min_proper : (z : Option Header) (f : Box → Option Header) (bs : List Box) → ((b : Box) → proper arity b ≡ false → f b ≡ None) → minFrom z f bs ≡ minFrom z f (proper_ones bs)
 min_proper z f [] e = refl
 min_proper z f (b ∷ bs) e = go (min_proper z f bs e) (proper arity b) refl
   where
     go : minFrom z f bs ≡ minFrom z f (proper_ones bs) → (t : Bool) → proper arity b ≡ t
         → lesser (f b) (minFrom z f bs) ≡ minFrom z f (cond t (b ∷ proper_ones bs) (proper_ones bs))
     go ih true q = ap (lesser (f b)) ih
-    go ih false q = ap (λ (r : Found). lesser r (minFrom z f bs)) (e b q) ∙ ih
+    go ih false q = ap (λ (r : Option Header). lesser r (minFrom z f bs)) (e b q) ∙ ih
 
 -- the least over a list that is mapped
-min_map : {A B : Type 0} (f : B → Found) (g : A → B) (xs : List A) → minOver f (map g xs) ≡ minOver (λ x. f (g x)) xs
+min_map : {A B : Type 0} (f : B → Option Header) (g : A → B) (xs : List A) → minOver f (map g xs) ≡ minOver (λ x. f (g x)) xs
 min_map f g [] = refl
 min_map f g (x ∷ xs) = ap (lesser (f (g x))) (min_map f g xs)
 
@@ -76,7 +75,7 @@ Within hs b = (h : Header) → lies b h ≡ true → among hs h ≡ true
 corner_of_lem : (hs : Headers) (b : Box) → Within hs b → least_in hs b always ≡ corner_of b
 corner_of_lem hs b w = go (proper arity b) refl
   where
-    go : (t : Bool) → proper arity b ≡ t → least_in hs b always ≡ cond t (At (header (lows arity b))) Nothing
+    go : (t : Bool) → proper arity b ≡ t → least_in hs b always ≡ cond t (Some (header (lows arity b))) None
     go true p = corner hs b always (w (header (lows arity b)) (corner_in_lem arity b p)) p refl
     go false p = crossed_none hs always b p
 
@@ -92,14 +91,14 @@ corners hs b (q ∷ qs) f =
 corner_if_lem : (hs : Headers) (w : Bool) (b : Box) → least_in hs b (λ h. w) ≡ corner_if hs w b
 corner_if_lem hs w b =
     least_in-when hs b w
-    ∙ ap (λ (r : Found). cond w r Nothing)
+    ∙ ap (λ (r : Option Header). cond w r None)
     (over_set hs b always ∙ min_map (λ p. least_in hs p always) (meet arity b) hs.boxes ∙ corners hs b hs.boxes λ h i. i)
 
 pub seek_is : (hs : Headers) (xs : List (Box × Bool)) (d : Bool) (b : Box) → least_in hs b (answers xs d) ≡ seek hs xs d b
 seek_is hs [] d b = corner_if_lem hs d b
 seek_is hs (x ∷ xs) d b =
     branch hs (λ h. x.1) (answers xs d) b x.0
-    ∙ ap (λ (z : Found). minFrom z (λ p. least_in hs p (answers xs d)) (cut arity b x.0)) (corner_if_lem hs x.1 (meet arity b x.0))
+    ∙ ap (λ (z : Option Header). minFrom z (λ p. least_in hs p (answers xs d)) (cut arity b x.0)) (corner_if_lem hs x.1 (meet arity b x.0))
     ∙ min_proper (corner_if hs x.1 (meet arity b x.0)) (λ p. least_in hs p (answers xs d)) (cut arity b x.0) (λ p q. crossed_none hs (answers xs d) p q)
     ∙ min_alike (corner_if hs x.1 (meet arity b x.0)) (λ p. least_in hs p (answers xs d)) (seek hs xs d) (proper_ones (cut arity b x.0)) (λ p. seek_is hs xs d p)
 

@@ -1,7 +1,7 @@
 -- A box is narrowed to its headers: where no row of it has a port of 0, to the protocols that have ports; where no protocol of it has ports, to the ports 0.
 -- Over any set of headers that goes by ports, and any list of protocols that the box needs.
 -- Assumes nothing.
-use Rattle.std.proofs.Common.{◌≡◌, ℕ, ◌<◌, ◌≤◌, Bool, true, false, not, ◌&&◌, ◌||◌, eqb, List, length, set, sym, refl, ap, ◌∙◌, subst, ap₂, arith, length-set, eq-eqb, ne_eqb, eqb-true}
+use Rattle.std.proofs.Common.{◌≡◌, ℕ, ◌<◌, ◌≤◌, Bool, true, false, not, ◌&&◌, ◌||◌, eqb, List, length, set, sym, refl, ap, ◌∙◌, subst, arith, length-set, eq-eqb, eqb-true}
 use Rattle.policy.specs.declared.header.Header.{Header}
 use Rattle.policy.specs.Row.{Row}
 use Rattle.policy.specs.Box.{Range, range, within, inside, proper}
@@ -192,13 +192,6 @@ module _ (hs : Headers) (ps : Ports) (are : (h : Header) → among hs h ≡ (fit
                 (in_rest 1 b.1.1.1.1 (lows arity b).1.1.1.1 (last b (lows arity b) c)))))))
 
 -- ---- what the code shows
-
--- whether a port is 0 nowhere
-pub needs_local : (l r x : ℕ) → x ≡ l → (x ≡ 0 → ⊥) → true ≡ not (eqb l 0 && eqb r 0)
-needs_local l r x e n = sym (ap (λ (t : Bool). not (t && eqb r 0)) (ap (λ (l : ℕ). eqb l 0) (sym e) ∙ ne_eqb x 0 n))
-
-pub needs_remote : (l r x y : ℕ) → x ≡ l → y ≡ r → x ≡ 0 → not (eqb y 0) ≡ not (eqb l 0 && eqb r 0)
-needs_remote l r x y e f z = sym (ap₂ (λ (t u : Bool). not (t && u)) (ap (λ (l : ℕ). eqb l 0) (sym e) ∙ eq-eqb x 0 z) (ap (λ (r : ℕ). eqb r 0) (sym f)))
 
 -- by the ports of document 02
 module _ (b : List ℕ) (p : proper arity (box_of b 0) ≡ true) (fit : Fitting (box_of b 0)) (t : Bool) (alone : t ≡ not (eqb (field b 0 2).low 0 && eqb (field b 0 3).low 0))

@@ -154,20 +154,3 @@ one t = cond t 1 0
 abbrev pub shorts : (k : ℕ) → Row Range k → Row Range k → ℕ
 shorts zero b s = 0
 shorts (suc k) b s = one (ltb s.0.high b.0.high) + shorts k b.1 s.1
-
-pub shorts_fall : (k f : ℕ) (b s : Row Range k) → Short k f b s → shorts k (at_field up_to k f b s) s < shorts k b s
-shorts_fall zero f b s o = absurd o
-shorts_fall (suc k) zero b s o =
-    less (one (ltb s.0.high (min b.0.high s.0.high))) (one (ltb s.0.high b.0.high)) (shorts k b.1 s.1)
-    (ap one (le-ltb s.0.high (min b.0.high s.0.high) (right b.0.high s.0.high)))
-    (ap one (lt-ltb s.0.high b.0.high o))
-  where
-    right : (m n : ℕ) → min m n ≤ n
-    right m n = omega arith
-
-    less : (i j n : ℕ) → i ≡ 0 → j ≡ 1 → i + n < j + n
-    less i j n p q = omega arith
-shorts_fall (suc k) (suc f) b s o = more (one (ltb s.0.high b.0.high)) (shorts k (at_field up_to k f b.1 s.1) s.1) (shorts k b.1 s.1) (shorts_fall k f b.1 s.1 o)
-  where
-    more : (i m n : ℕ) → m < n → i + m < i + n
-    more i m n l = omega arith

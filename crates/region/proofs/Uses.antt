@@ -1,13 +1,11 @@
 -- What the search for a missed header is used for: each question of 01 goes by the entries of a list, and each entry's part is such a search. Over any set of headers.
 -- Assumes nothing.
+use Rattle.std.specs.Prelude.{None, Option, Some}
 use Rattle.std.proofs.Common.{◌≡◌, ℕ, suc, ◌+◌, ◌<◌, ◌≤◌, Bool, true, false, cond, not, ◌&&◌, ◌||◌, List, [], ◌∷◌, ◌++◌, length, sym, refl, ap, ◌∙◌, arith, eq-eqb, ne_eqb}
 use mathlib.Core.Path.{fun_ext}
 use mathlib.Core.Bool.{and-false}
 use Rattle.policy.specs.declared.header.Header.{Header}
-use Rattle.policy.specs.declared.header.Found.{Found}
-use Rattle.policy.specs.declared.header.Found.TheVariants.{Nothing}
 use Rattle.policy.specs.declared.entry.Entry.{Entry}
-use Rattle.policy.specs.declared.entry.Caught.TheVariants as catch
 use Rattle.policy.specs.Box.{meet}
 use Rattle.policy.specs.Header.{arity, fields, Box, lies, Headers}
 use Rattle.policy.specs.steps.Findings.{lesser}
@@ -76,10 +74,10 @@ module _ (hs : Headers) (x : Box) (front : List Entry) (e : Entry) (P Q : Header
   by_first_match =
       ap (least_in hs x) (fun_ext split_entry)
       ∙ least_in-union hs x (λ h. missed front h && (matches e h && P h)) (λ h. missed (front ++ e ∷ []) h && Q h)
-      ∙ ap (λ (r : Found). lesser r (least_in hs x (λ h. missed (front ++ e ∷ []) h && Q h))) (entry_part hs x front e P)
+      ∙ ap (λ (r : Option Header). lesser r (least_in hs x (λ h. missed (front ++ e ∷ []) h && Q h))) (entry_part hs x front e P)
 
 -- nothing is left where the front leaves nothing that comes before the finding
-pub exhausted : (hs : Headers) (x : Box) (front : List Entry) (P : Header → Bool) (found : Found) → lesser (least_in hs x (missed front)) found ≡ found
+pub exhausted : (hs : Headers) (x : Box) (front : List Entry) (P : Header → Bool) (found : Option Header) → lesser (least_in hs x (missed front)) found ≡ found
     → lesser (least_in hs x (λ h. missed front h && P h)) found ≡ found
 exhausted hs x front P found e = implied hs x (λ h. missed front h && P h) (missed front) found (λ h. table (missed front h) (P h)) e
   where
@@ -89,7 +87,7 @@ exhausted hs x front P found e = implied hs x (λ h. missed front h && P h) (mis
     table false p = refl
 
 -- the least header of x behind the front that the list allows what is wanted
-abbrev pub left_in : Headers → Box → Sets → Bool → List Entry → List Entry → Found
+abbrev pub left_in : Headers → Box → Sets → Bool → List Entry → List Entry → Option Header
 left_in hs x q d front p = least_in hs x (λ h. missed front h && judged q d (allowed p h))
 
 -- what the list of e and p allows, judged: by e's set in e's part, and by p in what is left
@@ -102,32 +100,32 @@ module _ (hs : Headers) (x : Box) (q : Sets) (d : Bool) (front : List Entry) whe
       go false = refl
 
   judged_step : (e : Entry) (p : List Entry)
-      → left_in hs x q d front (e ∷ p) ≡ lesser (cond (wanted q e.actions) (least_in hs (meet arity x (selector e)) (missed front)) Nothing) (left_in hs x q d (front ++ e ∷ []) p)
+      → left_in hs x q d front (e ∷ p) ≡ lesser (cond (wanted q e.actions) (least_in hs (meet arity x (selector e)) (missed front)) None) (left_in hs x q d (front ++ e ∷ []) p)
   judged_step e p =
       ap (least_in hs x) (fun_ext λ h. ap (missed front h &&◌) (judged_cons e p h))
       ∙ by_first_match hs x front e (λ h. wanted q e.actions) (λ h. judged q d (allowed p h))
-      ∙ ap (λ (r : Found). lesser r (left_in hs x q d (front ++ e ∷ []) p)) (least_in-if hs (meet arity x (selector e)) (missed front) (wanted q e.actions))
+      ∙ ap (λ (r : Option Header). lesser r (left_in hs x q d (front ++ e ∷ []) p)) (least_in-if hs (meet arity x (selector e)) (missed front) (wanted q e.actions))
 
   -- an entry whose set is wanted, and one whose set is not
-  pub judged_wanted : (e : Entry) (p : List Entry) (found : Found) → wanted q e.actions ≡ true
+  pub judged_wanted : (e : Entry) (p : List Entry) (found : Option Header) → wanted q e.actions ≡ true
       → lesser (left_in hs x q d front (e ∷ p)) found ≡ lesser (left_in hs x q d (front ++ e ∷ []) p) (lesser (least_in hs (meet arity x (selector e)) (missed front)) found)
   judged_wanted e p found w =
-      ap (λ (r : Found). lesser r found)
-      (judged_step e p ∙ ap (λ (t : Bool). lesser (cond t (least_in hs (meet arity x (selector e)) (missed front)) Nothing) (left_in hs x q d (front ++ e ∷ []) p)) w
+      ap (λ (r : Option Header). lesser r found)
+      (judged_step e p ∙ ap (λ (t : Bool). lesser (cond t (least_in hs (meet arity x (selector e)) (missed front)) None) (left_in hs x q d (front ++ e ∷ []) p)) w
       ∙ lesser_comm (least_in hs (meet arity x (selector e)) (missed front)) (left_in hs x q d (front ++ e ∷ []) p))
       ∙ lesser_assoc (left_in hs x q d (front ++ e ∷ []) p) (least_in hs (meet arity x (selector e)) (missed front)) found
 
-  pub judged_passed : (e : Entry) (p : List Entry) (found : Found) → wanted q e.actions ≡ false
+  pub judged_passed : (e : Entry) (p : List Entry) (found : Option Header) → wanted q e.actions ≡ false
       → lesser (left_in hs x q d front (e ∷ p)) found ≡ lesser (left_in hs x q d (front ++ e ∷ []) p) found
   judged_passed e p found w =
-      ap (λ (r : Found). lesser r found)
-      (judged_step e p ∙ ap (λ (t : Bool). lesser (cond t (least_in hs (meet arity x (selector e)) (missed front)) Nothing) (left_in hs x q d (front ++ e ∷ []) p)) w)
+      ap (λ (r : Option Header). lesser r found)
+      (judged_step e p ∙ ap (λ (t : Bool). lesser (cond t (least_in hs (meet arity x (selector e)) (missed front)) None) (left_in hs x q d (front ++ e ∷ []) p)) w)
 
   -- the end of the list: what it does not catch
-  pub judged_end : left_in hs x q d front [] ≡ cond d (least_in hs x (missed front)) Nothing
+  pub judged_end : left_in hs x q d front [] ≡ cond d (least_in hs x (missed front)) None
   judged_end = least_in-if hs x (missed front) d
 
-  pub judged_exhausted : (p : List Entry) (found : Found) → lesser (least_in hs x (missed front)) found ≡ found → lesser (left_in hs x q d front p) found ≡ found
+  pub judged_exhausted : (p : List Entry) (found : Option Header) → lesser (least_in hs x (missed front)) found ≡ found → lesser (left_in hs x q d front p) found ≡ found
   judged_exhausted p found e = exhausted hs x front (λ h. judged q d (allowed p h)) found e
 
 -- ---- comparison: what p allows and q does not (Definition 6), by the entries of p
@@ -151,7 +149,7 @@ exceeds_step hs x front e p q =
         go true = lacks (allowed q h)
         go false = refl
 
-pub exceeds_end : (hs : Headers) (x : Box) (front q : List Entry) → least_in hs x (λ h. missed front h && exceeds [] q h) ≡ Nothing
+pub exceeds_end : (hs : Headers) (x : Box) (front q : List Entry) → least_in hs x (λ h. missed front h && exceeds [] q h) ≡ None
 unfolding least_in
 exceeds_end hs x front q = least_none hs (λ h. lies x h && (missed front h && false)) λ h a. ap (lies x h &&◌) (and-false (missed front h)) ∙ and-false (lies x h)
 
@@ -168,7 +166,7 @@ past k i (e ∷ p) h l = go (matches e h) (past k (i + 1) p h (next k i l))
     apart : (k i : ℕ) → k < i → i ≡ k → ⊥
     apart k i l e = omega arith
 
-    go : (m : Bool) → is_by k (catcher_from (i + 1) p h) ≡ false → is_by k (cond m (catch.By i) (catcher_from (i + 1) p h)) ≡ false
+    go : (m : Bool) → is_by k (catcher_from (i + 1) p h) ≡ false → is_by k (cond m (Some i) (catcher_from (i + 1) p h)) ≡ false
     go true r = ne_eqb i k (apart k i l)
     go false r = r
 
@@ -182,7 +180,7 @@ by_number i [] e back h = go (matches e h)
     less : (i : ℕ) → i + 0 < i + 1
     less i = omega arith
 
-    go : (m : Bool) → is_by (i + 0) (cond m (catch.By i) (catcher_from (i + 1) back h)) ≡ m
+    go : (m : Bool) → is_by (i + 0) (cond m (Some i) (catcher_from (i + 1) back h)) ≡ m
     go true = eq-eqb i (i + 0) (self i)
     go false = past (i + 0) (i + 1) back h (less i)
 by_number i (g ∷ front) e back h = go (matches g h) refl (by_number (i + 1) front e back h)
@@ -194,7 +192,7 @@ by_number i (g ∷ front) e back h = go (matches g h) refl (by_number (i + 1) fr
     move i n = omega arith
 
     go : (m : Bool) → matches g h ≡ m → is_by (i + 1 + length front) (catcher_from (i + 1) (front ++ e ∷ back) h) ≡ (missed front h && matches e h)
-        → is_by (i + suc (length front)) (cond m (catch.By i) (catcher_from (i + 1) (front ++ e ∷ back) h)) ≡ (missed (g ∷ front) h && matches e h)
+        → is_by (i + suc (length front)) (cond m (Some i) (catcher_from (i + 1) (front ++ e ∷ back) h)) ≡ (missed (g ∷ front) h && matches e h)
     go true m r = ne_eqb i (i + suc (length front)) (apart i (length front)) ∙ sym (ap (◌&& matches e h) (missed_cons g front h ∙ ap (λ (t : Bool). not t && missed front h) m))
     go false m r =
         ap (λ (k : ℕ). is_by k (catcher_from (i + 1) (front ++ e ∷ back) h)) (sym (move i (length front)))
@@ -221,11 +219,11 @@ over_end i k (e ∷ p) h l = go (matches e h) (over_end (i + 1) k p h (next i (l
     apart : (i n k : ℕ) → i + suc n ≤ k → i ≡ k → ⊥
     apart i n k l e = omega arith
 
-    go : (m : Bool) → is_by k (catcher_from (i + 1) p h) ≡ false → is_by k (cond m (catch.By i) (catcher_from (i + 1) p h)) ≡ false
+    go : (m : Bool) → is_by k (catcher_from (i + 1) p h) ≡ false → is_by k (cond m (Some i) (catcher_from (i + 1) p h)) ≡ false
     go true r = ne_eqb i k (apart i (length p) k l)
     go false r = r
 
-pub caught_by_none : (hs : Headers) (x : Box) (k : ℕ) (p : List Entry) → length p ≤ k → least_in hs x (treated (want.CaughtBy k) p) ≡ Nothing
+pub caught_by_none : (hs : Headers) (x : Box) (k : ℕ) (p : List Entry) → length p ≤ k → least_in hs x (treated (want.CaughtBy k) p) ≡ None
 unfolding least_in
 caught_by_none hs x k p l =
     least_none hs (λ h. lies x h && is_by k (catcher p h)) λ h a. ap (lies x h &&◌) (over_end 0 k p h (from (length p) k l)) ∙ and-false (lies x h)

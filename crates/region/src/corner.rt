@@ -2,14 +2,14 @@
 ghost use Rattle.std.specs.Prelude.{◌≡◌};
 ghost use Rattle.region.specs.steps.Corner.{improves};
 
-use policy::header::{Found, Header, is_before};
+use policy::header::{Header, is_before};
 
 // Whether h comes before the finding.
-pub fn is_improved(h: Header, best: Found) -> bool
+pub fn is_improved(h: Header, best: Option<Header>) -> bool
     ensures { result ≡ improves h best }
 {
     match best {
-        Found::Nothing => true,
-        Found::At(g) => is_before(h, g),
+        None => true,
+        Some(g) => is_before(h, g),
     }
 }

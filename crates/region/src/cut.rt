@@ -5,7 +5,7 @@ ghost use Rattle.policy.specs.Header.{arity};
 ghost use Rattle.policy.specs.Sides.{box_of};
 ghost use Rattle.policy.specs.steps.Rows.{sides};
 ghost use Rattle.region.specs.steps.Corner.{holds_corner};
-ghost use Rattle.region.specs.steps.Pieces.{IsBox, up_to, at_field, Short, Next, Offered};
+ghost use Rattle.region.specs.steps.Pieces.{IsBox, up_to, at_field, Short, Next};
 
 use policy::sides::{FIELDS, SIDES, high};
 
@@ -33,41 +33,16 @@ pub(crate) fn keep_up_to(b: &mut [u32; SIDES], s: &[u32; SIDES], f: usize)
     b[2 * f + 1] = high(s, f);
 }
 
-// A field's number and its rank.
-#[derive(Clone, Copy)]
-pub struct Candidate {
-    pub field: usize,
-    pub rank: u32,
-}
-
-// The better of c and field number f, if its end comes before that of b.
-fn offer_field(c: Candidate, f: usize, rank: u32, end: u32, high: u32) -> Candidate
-    ensures { Offered c f end high result }
-{
-    if end < high {
-        if c.field == FIELDS {
-            return Candidate { field: f, rank };
-        }
-        if rank < c.rank {
-            return Candidate { field: f, rank };
-        }
-        return c;
-    }
-    c
-}
-
-// A field in which s ends inside b, the one of the least rank, or FIELDS if there is none. Any ranks will do.
-pub(crate) fn next_field(b: &[u32; SIDES], s: &[u32; SIDES], ranks: &[u32; FIELDS]) -> usize
+// A field in which s ends inside b, if there is one: the last of those of the least rank. Any ranks will do. The least one is kept beside its field,
+// so that it stays in a register.
+pub(crate) fn next_field(b: &[u32; SIDES], s: &[u32; SIDES], ranks: &[u32; FIELDS]) -> Option<usize>
     ensures { Next (box_of b.now 0) (box_of s.now 0) result }
 {
-    let mut best = Candidate {
-        field: FIELDS,
-        rank: 0,
-    };
-    let mut f = FIELDS;
-    while 0 < f {
-        f -= 1;
-        best = offer_field(best, f, ranks[f], high(s, f), high(b, f));
+    let mut best: Option<(usize, u32)> = None;
+    for f in (0..FIELDS).rev() {
+        if high(s, f) < high(b, f) && best.is_none_or(|(_, least)| ranks[f] < least) {
+            best = Some((f, ranks[f]));
+        }
     }
-    best.field
+    best.map(|(f, _)| f)
 }

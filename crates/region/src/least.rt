@@ -11,10 +11,10 @@ ghost use Rattle.region.specs.steps.Searchable.{Searchable, Ready, Remainder};
 
 use crate::cut::{keep_above, keep_up_to, next_field};
 use crate::pick::{Picked, pick_header, row_of_two};
-use crate::rank::{LEVELS, fewer, rank_fields};
+use crate::rank::{LEVELS, rank_fields};
 use crate::row::row_reaches;
 use crate::size::{goes_first, largest_volume};
-use policy::header::{Found, low_corner, whole};
+use policy::header::{Header, low_corner, whole};
 use policy::sides::{FIELDS, ROW, SIDES, is_proper, part_in_row};
 
 // Cuts s, a row that holds the low corner of x and not all of it, off x, field by field, and searches each part above it but one, which it leaves
@@ -25,25 +25,24 @@ fn search_pieces(
     b: &[u32],
     x: &mut [u32; SIDES],
     s: &[u32; SIDES],
-    best: Found,
+    best: Option<Header>,
     left: usize,
     levels: u32,
-) -> Found
+) -> Option<Header>
     requires { (length x.old ≡ sides) × ((reaches arity (box_of s.now 0) (box_of x.old 0) ≡ false) × Ready (rows_in a.now ++ rows_in b.now) (box_of s.now 0) (box_of x.old 0) left) }
     ensures { (length x.new ≡ sides) × Remainder headers (rows_in a.now ++ rows_in b.now) (box_of x.old 0) best left (box_of x.new 0) result }
 {
     let mut ranks = [0u32; FIELDS];
     rank_fields(a, b, x, s, levels, &mut ranks);
-    let mut g = next_field(x, s, &ranks);
+    let mut g = next_field(x, s, &ranks).unwrap();
     let most = largest_volume(x, levels);
     let mut kept = *x;
     keep_above(&mut kept, s, g);
     keep_up_to(x, s, g);
-    let deeper = fewer(levels);
+    let deeper = levels.saturating_sub(1);
     let mut found = best;
     let mut next = next_field(x, s, &ranks);
-    while next < FIELDS {
-        let f = next;
+    while let Some(f) = next {
         let mut upper = *x;
         keep_above(&mut upper, s, f);
         keep_up_to(x, s, f);
@@ -67,10 +66,10 @@ fn least_in_piece(
     a: &[u32],
     b: &[u32],
     x: &mut [u32; SIDES],
-    best: Found,
+    best: Option<Header>,
     left: usize,
     levels: u32,
-) -> Found
+) -> Option<Header>
     requires { (length x.old ≡ sides) × Searchable (rows_in a.now ++ rows_in b.now) (box_of x.old 0) left }
     ensures { result ≡ lesser (least_in headers (box_of x.old 0) (missed (rows_in a.now ++ rows_in b.now))) best }
 {
@@ -80,7 +79,7 @@ fn least_in_piece(
     loop {
         match picked {
             Picked::Free => {
-                return Found::At(low_corner(x));
+                return Some(low_corner(x));
             }
             Picked::Covered => {
                 return found;
@@ -99,7 +98,7 @@ fn least_in_piece(
 }
 
 // The lesser of best and the least header of x that no row of a and no row of b matches.
-pub fn least_open(a: &[u32], b: &[u32], x: &[u32; SIDES], best: Found) -> Found
+pub fn least_open(a: &[u32], b: &[u32], x: &[u32; SIDES], best: Option<Header>) -> Option<Header>
     ensures { result ≡ lesser (least_in headers (box_of x.now 0) (missed (rows_in a.now ++ rows_in b.now))) best }
 {
     let all = whole();
@@ -111,7 +110,7 @@ pub fn least_open(a: &[u32], b: &[u32], x: &[u32; SIDES], best: Found) -> Found
 }
 
 // The same for the rows of one list.
-pub fn least_missed(rows: &[u32], x: &[u32; SIDES], best: Found) -> Found
+pub fn least_missed(rows: &[u32], x: &[u32; SIDES], best: Option<Header>) -> Option<Header>
     ensures { result ≡ lesser (least_in headers (box_of x.now 0) (missed (rows_in rows.now))) best }
 {
     least_open(rows, &rows[0..0], x, best)

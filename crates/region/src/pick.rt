@@ -1,5 +1,5 @@
 // A row that holds the low corner of a box.
-ghost use Rattle.std.specs.Prelude.{◌≡◌, ◌+◌, ◌-◌, ◌*◌, ◌/◌, ◌<◌, ◌≤◌, true, false, ◌++◌, length};
+ghost use Rattle.std.specs.Prelude.{◌≡◌, ◌+◌, ◌*◌, ◌/◌, ◌<◌, ◌≤◌, true, ◌++◌, length, Some};
 ghost use Rattle.policy.specs.Box.{proper};
 ghost use Rattle.policy.specs.steps.Boxes.{lows};
 ghost use Rattle.policy.specs.Header.{arity, header, among, headers};
@@ -11,7 +11,7 @@ ghost use Rattle.region.specs.steps.Corner.{Picks, PicksBefore, HoldsLast, Choos
 use crate::corner::is_improved;
 use crate::headers::narrow_to_headers;
 use crate::row::{holds_corner, row_reaches};
-use policy::header::{Found, low_corner};
+use policy::header::{Header, low_corner};
 use policy::sides::{FIELDS, ROW, SIDES, high, high_at, low, row_sides};
 
 // The number of a row that holds the low corner of a box; or no row holds it; or the rows hold all of the box.
@@ -22,7 +22,7 @@ pub enum Picked {
     Covered,
 }
 
-// A row that holds a corner: its number and its weight, or that it holds all of the box.
+// A row that holds a corner: its number and its weight, and whether it holds all of the box. That is asked of the chosen row alone, so that it stands beside the weight.
 #[derive(Clone, Copy)]
 pub struct Choice {
     pub number: usize,
@@ -33,9 +33,9 @@ pub struct Choice {
 // How many numbers from low to high come up to an end, if high is past it. A row that reaches high weighs more: it leaves nothing above it.
 fn width(low: u32, high: u32, end: u32) -> f64 {
     if end < high {
-        return std::num::wrapping_sub_u32(end, low) as f64 + 1.0;
+        return end.wrapping_sub(low) as f64 + 1.0;
     }
-    (std::num::wrapping_sub_u32(high, low) as f64 + 1.0) * 16.0
+    (high.wrapping_sub(low) as f64 + 1.0) * 16.0
 }
 
 // How much of b lies in the row at a place, which holds its low corner. The weights matter to the speed alone.
@@ -43,10 +43,8 @@ fn weight(s: &[u32], at: usize, b: &[u32; SIDES]) -> f64
     requires { at + sides ≤ length s.now }
 {
     let mut w: f64 = 1.0;
-    let mut f: usize = 0;
-    while f < FIELDS {
-        w = w * width(low(b, f), high(b, f), high_at(s, at, f));
-        f += 1;
+    for f in 0..FIELDS {
+        w *= width(low(b, f), high(b, f), high_at(s, at, f));
     }
     w
 }
@@ -55,10 +53,8 @@ fn weight(s: &[u32], at: usize, b: &[u32; SIDES]) -> f64
 // one box of half the size.
 fn enough_weight(b: &[u32; SIDES]) -> f64 {
     let mut w: f64 = 1.0;
-    let mut f: usize = 0;
-    while f < FIELDS {
-        w = w * width(low(b, f), high(b, f), high(b, f));
-        f += 1;
+    for f in 0..FIELDS {
+        w *= width(low(b, f), high(b, f), high(b, f));
     }
     w / 32.0
 }
@@ -79,30 +75,20 @@ fn better(s: &[u32], i: usize, b: &[u32; SIDES], c: Choice) -> Choice
     }
 }
 
-// How many of the first n rows of s there are up to the last that holds the low corner of b; 0 if none does.
-fn up_to_last(s: &[u32], n: usize, b: &[u32; SIDES]) -> usize
+// The number of the last of the first n rows of s that holds the low corner of b, if one does.
+// speed: a function of its own. Put where it is called, it keeps the found row's numbers in registers for what is asked of them next, and the loop has too
+// few left: searches of 100 microseconds and more took 1.12 times as long, a comparison of slabs 1.3 times.
+#[inline(never)]
+fn last_holding(s: &[u32], n: usize, b: &[u32; SIDES]) -> Option<usize>
     requires { n ≤ length s.now / row_size }
     ensures { HoldsLast s.now n (lows arity (box_of b.now 0)) result }
 {
-    let mut i = n;
-    while 0 < i {
-        if holds_corner(s, ROW * (i - 1), b) {
-            return i;
+    for i in (0..n).rev() {
+        if holds_corner(s, ROW * i, b) {
+            return Some(i);
         }
-        i -= 1;
     }
-    0
-}
-
-// The same of the rows before the last of the first i.
-fn up_to_next(s: &[u32], i: usize, b: &[u32; SIDES]) -> usize
-    requires { i ≤ length s.now / row_size }
-    ensures { HoldsLast s.now (i - 1) (lows arity (box_of b.now 0)) result }
-{
-    if i == 0 {
-        return 0;
-    }
-    up_to_last(s, i - 1, b)
+    None
 }
 
 // The choice, and whether the row holds all of b.
@@ -119,42 +105,43 @@ fn with_cover(s: &[u32], b: &[u32; SIDES], c: Choice) -> Choice
 
 // A row of s that holds the low corner of b: the heaviest of the first one, of the next one and of those before it. One that is heavy
 // enough ends the choice.
-fn choose(s: &[u32], first: usize, next: usize, b: &[u32; SIDES], enough: f64) -> Choice
-    requires { (0 < first) × (HoldsLast s.now (length s.now / row_size) (lows arity (box_of b.now 0)) first × HoldsLast s.now (first - 1) (lows arity (box_of b.now 0)) next) }
+fn choose(s: &[u32], first: usize, mut next: Option<usize>, b: &[u32; SIDES], enough: f64) -> Choice
+    requires { HoldsLast s.now (length s.now / row_size) (lows arity (box_of b.now 0)) (Some first) × HoldsLast s.now first (lows arity (box_of b.now 0)) next }
     ensures { Chooses s.now (box_of b.now 0) result.number result.covers }
 {
     let mut best = Choice {
-        number: first - 1,
+        number: first,
         weight: 0.0,
         covers: false,
     };
     let mut i = first;
-    let mut k = next;
-    while 0 < i {
-        best = better(s, i - 1, b, best);
+    loop {
+        best = better(s, i, b, best);
         if enough <= best.weight {
             return with_cover(s, b, best);
         }
+        let Some(k) = next else {
+            return best;
+        };
         i = k;
-        k = up_to_next(s, k, b);
+        next = last_holding(s, i, b);
     }
-    best
 }
 
-// Whether the last row that holds the low corner of b holds all of b.
-fn last_covers(s: &[u32], first: usize, b: &[u32; SIDES]) -> bool
-    requires { HoldsLast s.now (length s.now / row_size) (lows arity (box_of b.now 0)) first }
+// Whether the last row that holds the low corner of b, if there is one, holds all of b.
+fn last_covers(s: &[u32], last: Option<usize>, b: &[u32; SIDES]) -> bool
+    requires { HoldsLast s.now (length s.now / row_size) (lows arity (box_of b.now 0)) last }
     ensures { result ≡ true → Covers (rows_in s.now) (box_of b.now 0) }
 {
-    if 0 < first {
-        return row_reaches(s, ROW * (first - 1), b);
+    match last {
+        Some(i) => row_reaches(s, ROW * i, b),
+        None => false,
     }
-    false
 }
 
 // The pick by weight among the rows of s that hold the low corner of x.
-fn pick_heaviest(s: &[u32], first: usize, next: usize, x: &[u32; SIDES]) -> Picked
-    requires { (0 < first) × (HoldsLast s.now (length s.now / row_size) (lows arity (box_of x.now 0)) first × HoldsLast s.now (first - 1) (lows arity (box_of x.now 0)) next) }
+fn pick_heaviest(s: &[u32], first: usize, next: Option<usize>, x: &[u32; SIDES]) -> Picked
+    requires { HoldsLast s.now (length s.now / row_size) (lows arity (box_of x.now 0)) (Some first) × HoldsLast s.now first (lows arity (box_of x.now 0)) next }
     ensures { Picks (rows_in s.now) (box_of x.now 0) result }
 {
     let c = choose(s, first, next, x, enough_weight(x));
@@ -165,27 +152,27 @@ fn pick_heaviest(s: &[u32], first: usize, next: usize, x: &[u32; SIDES]) -> Pick
 }
 
 // The pick where one list alone may have a row that holds the low corner of x. A single one needs no weight.
-fn pick_of_one(s: &[u32], first: usize, x: &[u32; SIDES]) -> Picked
+fn pick_of_one(s: &[u32], first: Option<usize>, x: &[u32; SIDES]) -> Picked
     requires { HoldsLast s.now (length s.now / row_size) (lows arity (box_of x.now 0)) first }
     ensures { Picks (rows_in s.now) (box_of x.now 0) result }
 {
-    if first == 0 {
+    let Some(i) = first else {
         return Picked::Free;
+    };
+    let next = last_holding(s, i, x);
+    if next.is_none() {
+        return Picked::Held(i);
     }
-    let next = up_to_last(s, first - 1, x);
-    if next == 0 {
-        return Picked::Held(first - 1);
-    }
-    pick_heaviest(s, first, next, x)
+    pick_heaviest(s, i, next, x)
 }
 
 // The pick where both lists have one.
 fn pick_of_both(a: &[u32], i: usize, b: &[u32], j: usize, x: &[u32; SIDES]) -> Picked
-    requires { ((0 < i) × HoldsLast a.now (length a.now / row_size) (lows arity (box_of x.now 0)) i) × ((0 < j) × HoldsLast b.now (length b.now / row_size) (lows arity (box_of x.now 0)) j) }
+    requires { HoldsLast a.now (length a.now / row_size) (lows arity (box_of x.now 0)) (Some i) × HoldsLast b.now (length b.now / row_size) (lows arity (box_of x.now 0)) (Some j) }
     ensures { Picks (rows_in a.now ++ rows_in b.now) (box_of x.now 0) result }
 {
     let enough = enough_weight(x);
-    let k = up_to_last(a, i - 1, x);
+    let k = last_holding(a, i, x);
     let c = choose(a, i, k, x, enough);
     if c.covers {
         return Picked::Covered;
@@ -193,7 +180,7 @@ fn pick_of_both(a: &[u32], i: usize, b: &[u32], j: usize, x: &[u32; SIDES]) -> P
     if enough <= c.weight {
         return Picked::Held(c.number);
     }
-    let l = up_to_last(b, j - 1, x);
+    let l = last_holding(b, j, x);
     let d = choose(b, j, l, x, enough);
     if d.covers {
         return Picked::Covered;
@@ -220,26 +207,26 @@ fn picked_behind(n: usize, p: Picked) -> Picked
 fn pick_of_two(a: &[u32], b: &[u32], x: &[u32; SIDES]) -> Picked
     ensures { Picks (rows_in a.now ++ rows_in b.now) (box_of x.now 0) result }
 {
-    let i = up_to_last(a, a.len() / ROW, x);
+    let i = last_holding(a, a.len() / ROW, x);
     if last_covers(a, i, x) {
         return Picked::Covered;
     }
-    let j = up_to_last(b, b.len() / ROW, x);
+    let j = last_holding(b, b.len() / ROW, x);
     if last_covers(b, j, x) {
         return Picked::Covered;
     }
-    if j == 0 {
+    let Some(j) = j else {
         return pick_of_one(a, i, x);
-    }
-    if i == 0 {
-        let p = pick_heaviest(b, j, up_to_last(b, j - 1, x), x);
+    };
+    let Some(i) = i else {
+        let p = pick_heaviest(b, j, last_holding(b, j, x), x);
         return picked_behind(a.len() / ROW, p);
-    }
+    };
     pick_of_both(a, i, b, j, x)
 }
 
 // The same, if the low corner of x comes before best. If not, nothing in x does, and it counts as covered.
-fn pick_before(a: &[u32], b: &[u32], x: &[u32; SIDES], best: Found) -> Picked
+fn pick_before(a: &[u32], b: &[u32], x: &[u32; SIDES], best: Option<Header>) -> Picked
     requires { (proper arity (box_of x.now 0) ≡ true) × (among headers (header (lows arity (box_of x.now 0))) ≡ true) }
     ensures { PicksBefore (rows_in a.now ++ rows_in b.now) (box_of x.now 0) best result }
 {
@@ -250,7 +237,12 @@ fn pick_before(a: &[u32], b: &[u32], x: &[u32; SIDES], best: Found) -> Picked
 }
 
 // The same for x narrowed to its headers. Without any it counts as covered.
-pub(crate) fn pick_header(a: &[u32], b: &[u32], x: &mut [u32; SIDES], best: Found) -> Picked
+pub(crate) fn pick_header(
+    a: &[u32],
+    b: &[u32],
+    x: &mut [u32; SIDES],
+    best: Option<Header>,
+) -> Picked
     requires { (length x.old ≡ sides) × ((proper arity (box_of x.old 0) ≡ true) × Fitting (box_of x.old 0)) }
     ensures { (length x.new ≡ sides) × (Narrows headers (box_of x.old 0) (box_of x.new 0) × PicksBefore (rows_in a.now ++ rows_in b.now) (box_of x.new 0) best result) }
 {

@@ -19,11 +19,6 @@ fn crosses(s: &[u32], at: usize, cut: &[u32; SIDES], f: usize) -> u32
     0
 }
 
-// The sum of two counts, modulo 2^32.
-fn sum(a: u32, b: u32) -> u32 {
-    ((a as u64 + b as u64) % 4294967296) as u32
-}
-
 // Counts the cuts that the row at a place crosses, if it meets x.
 fn count_row(s: &[u32], at: usize, x: &[u32; SIDES], cut: &[u32; SIDES], ranks: &mut [u32; FIELDS])
     requires { at + sides ≤ length s.now }
@@ -31,67 +26,51 @@ fn count_row(s: &[u32], at: usize, x: &[u32; SIDES], cut: &[u32; SIDES], ranks: 
     if !meets_row(s, at, x) {
         return;
     }
-    let mut f: usize = 0;
-    while f < FIELDS {
-        ranks[f] = sum(ranks[f], crosses(s, at, cut, f));
-        f += 1;
+    for (f, rank) in ranks.iter_mut().enumerate() {
+        *rank = rank.wrapping_add(crosses(s, at, cut, f));
     }
 }
 
 // Counts those of every row of s. The counts are kept apart from what is lent, so that they stay in registers.
 fn count_rows(s: &[u32], x: &[u32; SIDES], cut: &[u32; SIDES], ranks: &mut [u32; FIELDS]) {
     let mut counts = *ranks;
-    let mut i = s.len() / ROW;
-    while 0 < i {
-        i -= 1;
+    for i in (0..s.len() / ROW).rev() {
         count_row(s, ROW * i, x, cut, &mut counts);
     }
     *ranks = counts;
 }
 
-// Whether cut ends before x in two fields or more.
+// Whether cut ends before x in two fields or more. The search asks it for each row that it cuts off, and a count of those fields took it longer.
 fn cuts_two(x: &[u32; SIDES], cut: &[u32; SIDES]) -> bool {
     let mut one = false;
-    let mut f: usize = 0;
-    while f < FIELDS {
+    for f in 0..FIELDS {
         if high(cut, f) < high(x, f) {
             if one {
                 return true;
             }
             one = true;
         }
-        f += 1;
     }
     false
 }
 
 // How much of the numbers from low to high come up to an end, in parts of 2^32.
 fn share(low: u32, high: u32, end: u32) -> u32 {
-    let part = std::num::wrapping_sub_u32(end, low) as u64 + 1;
-    let whole = std::num::wrapping_sub_u32(high, low) as u64 + 1;
+    let part = end.wrapping_sub(low) as u64 + 1;
+    let whole = high.wrapping_sub(low) as u64 + 1;
     (part * 0xffff_ffff / whole % 0x1_0000_0000) as u32
 }
 
 // Takes for each field the share of x up to the end of the row to be cut off. Cut in their order, the fields leave no part but the largest with more
 // than a quarter of the combinations of x: one that is cut after a share of p has at most p (1 - p) of them.
 fn rank_shares(x: &[u32; SIDES], cut: &[u32; SIDES], ranks: &mut [u32; FIELDS]) {
-    let mut f: usize = 0;
-    while f < FIELDS {
-        ranks[f] = share(low(x, f), high(x, f), high(cut, f));
-        f += 1;
+    for (f, rank) in ranks.iter_mut().enumerate() {
+        *rank = share(low(x, f), high(x, f), high(cut, f));
     }
 }
 
 // The levels of the search in which rows are counted. No list that is not made for it goes as far down.
 pub const LEVELS: u32 = 16;
-
-// One level less, if there is one.
-pub(crate) fn fewer(levels: u32) -> u32 {
-    if 0 < levels {
-        return levels - 1;
-    }
-    0
-}
 
 // Ranks the fields of x for the row to be cut off: by the rows of a and b that meet x and go past its end, while there are levels, and then by its
 // shares. A single cut needs no rank.

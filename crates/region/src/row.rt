@@ -14,14 +14,7 @@ pub fn holds_corner(s: &[u32], at: usize, b: &[u32; SIDES]) -> bool
     requires { at + sides ≤ length s.now }
     ensures { result ≡ inside arity (box_of s.now at) (lows arity (box_of b.now 0)) }
 {
-    let mut f: usize = 0;
-    while f < FIELDS {
-        if !is_between(low_at(s, at, f), low(b, f), high_at(s, at, f)) {
-            return false;
-        }
-        f += 1;
-    }
-    true
+    (0..FIELDS).all(|f| is_between(low_at(s, at, f), low(b, f), high_at(s, at, f)))
 }
 
 // Whether the row at a place ends nowhere before b does.
@@ -29,12 +22,5 @@ pub fn row_reaches(s: &[u32], at: usize, b: &[u32; SIDES]) -> bool
     requires { at + sides ≤ length s.now }
     ensures { result ≡ reaches arity (box_of s.now at) (box_of b.now 0) }
 {
-    let mut f: usize = 0;
-    while f < FIELDS {
-        if high_at(s, at, f) < high(b, f) {
-            return false;
-        }
-        f += 1;
-    }
-    true
+    (0..FIELDS).all(|f| high(b, f) <= high_at(s, at, f))
 }

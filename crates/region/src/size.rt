@@ -4,10 +4,8 @@ use policy::sides::{FIELDS, SIDES, high, low};
 // How many combinations of numbers b has, headers or not, about.
 fn volume(b: &[u32; SIDES]) -> f64 {
     let mut v: f64 = 1.0;
-    let mut f: usize = 0;
-    while f < FIELDS {
-        v = v * (std::num::wrapping_sub_u32(high(b, f), low(b, f)) as f64 + 1.0);
-        f += 1;
+    for f in 0..FIELDS {
+        v *= high(b, f).wrapping_sub(low(b, f)) as f64 + 1.0;
     }
     v
 }

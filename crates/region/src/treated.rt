@@ -13,10 +13,8 @@ ghost use Rattle.region.specs.steps.Treated.{wanted, judged, Finds};
 use crate::corner::is_improved;
 use crate::least::least_open;
 use policy::actions::is_subset;
-use policy::entry::Caught;
-use policy::header::Found;
+use policy::header::Header;
 use policy::sides::{ROW, SIDES, actions_at, meets_row, part_in_row};
-use std::num::wrapping_add_u32;
 
 // The action sets that are wanted.
 #[derive(Clone, Copy)]
@@ -32,8 +30,8 @@ pub enum Sets {
 // What a search hands up: the header that it found, and what catches that header in the list searched.
 #[derive(Clone, Copy)]
 pub struct Finding {
-    pub found: Found,
-    pub by: Caught,
+    pub found: Option<Header>,
+    pub by: Option<usize>,
 }
 
 // Whether the set a is wanted.
@@ -48,32 +46,27 @@ pub(crate) fn is_wanted(q: Sets, a: u32) -> bool
 }
 
 // Whether a header was found that comes before best.
-fn is_sooner(f: Found, best: Found) -> bool
+fn is_sooner(f: Option<Header>, best: Option<Header>) -> bool
     ensures { result ≡ sooner f best }
 {
     match f {
-        Found::At(h) => is_improved(h, best),
-        Found::Nothing => false,
+        Some(h) => is_improved(h, best),
+        None => false,
     }
 }
 
 // Whether the rows of a and of b leave no header of x that comes before best.
-pub(crate) fn is_exhausted(a: &[u32], b: &[u32], x: &[u32; SIDES], best: Found) -> bool
+pub(crate) fn is_exhausted(a: &[u32], b: &[u32], x: &[u32; SIDES], best: Option<Header>) -> bool
     ensures { result ≡ true → lesser (least_in headers (box_of x.now 0) (missed (rows_in a.now ++ rows_in b.now))) best ≡ best }
 {
     !is_sooner(least_open(a, b, x, best), best)
 }
 
-// The same, asked after 4, 8, 16, .. searches. How often it is asked matters to the speed alone.
-fn is_done(a: &[u32], b: &[u32], searches: u32, x: &[u32; SIDES], best: Found) -> bool
+// The same, asked after 4, 8, 16, .., 128 searches. How often it is asked matters to the speed alone.
+fn is_done(a: &[u32], b: &[u32], searches: u32, x: &[u32; SIDES], best: Option<Header>) -> bool
     ensures { result ≡ true → lesser (least_in headers (box_of x.now 0) (missed (rows_in a.now ++ rows_in b.now))) best ≡ best }
 {
-    if 4 <= searches {
-        if 128 % searches == 0 {
-            return is_exhausted(a, b, x, best);
-        }
-    }
-    false
+    (4..=128).contains(&searches) && searches.is_power_of_two() && is_exhausted(a, b, x, best)
 }
 
 // Whether the row at a place has a wanted set and matches some of x. Most do not, and need no search.
@@ -88,7 +81,13 @@ fn has_wanted_part(rows: &[u32], at: usize, x: &[u32; SIDES], q: Sets) -> bool
 }
 
 // The lesser of best and the least header of x that is missed by front and by the rows before the one at a place, and that this one matches.
-fn with_entry(front: &[u32], rows: &[u32], at: usize, x: &[u32; SIDES], best: Found) -> Found
+fn with_entry(
+    front: &[u32],
+    rows: &[u32],
+    at: usize,
+    x: &[u32; SIDES],
+    best: Option<Header>,
+) -> Option<Header>
     requires { at + row_size ≤ length rows.now }
     ensures { result ≡ lesser (least_in headers (meet arity (box_of x.now 0) (box_of rows.now at)) (missed (rows_in front.now ++ rows_in (take at rows.now)))) best }
 {
@@ -97,7 +96,12 @@ fn with_entry(front: &[u32], rows: &[u32], at: usize, x: &[u32; SIDES], best: Fo
 }
 
 // What catches the header found next: if it comes before the last one, what the search of it went by; else what catches the last one.
-fn catcher_of(next: Found, last: Found, searched: Caught, by: Caught) -> Caught
+fn catcher_of(
+    next: Option<Header>,
+    last: Option<Header>,
+    searched: Option<usize>,
+    by: Option<usize>,
+) -> Option<usize>
     ensures { result ≡ (if sooner next last then searched else by) }
 {
     if is_sooner(next, last) {
@@ -114,35 +118,32 @@ pub fn least_treated(
     x: &[u32; SIDES],
     q: Sets,
     uncaught: bool,
-    best: Found,
+    best: Option<Header>,
 ) -> Finding
     ensures { Finds (rows_in rows.now) (least_in headers (box_of x.now 0) (λ h. missed (rows_in front.now) h && judged q uncaught (allowed (rows_in rows.now) h))) best result }
 {
     let n = rows.len() / ROW;
     let mut found = best;
-    let mut by = Caught::Uncaught;
+    let mut by = None;
     let mut searches: u32 = 0;
-    let mut i: usize = 0;
-    while i < n {
+    for i in 0..n {
         let at = ROW * i;
         if !has_wanted_part(rows, at, x, q) {
-            i += 1;
             continue;
         }
         if is_done(front, &rows[0..at], searches, x, found) {
             return Finding { found, by };
         }
         let next = with_entry(front, rows, at, x, found);
-        by = catcher_of(next, found, Caught::By(i), by);
+        by = catcher_of(next, found, Some(i), by);
         found = next;
-        searches = wrapping_add_u32(searches, 1);
-        i += 1;
+        searches = searches.wrapping_add(1);
     }
     if uncaught {
         let next = least_open(front, rows, x, found);
         return Finding {
             found: next,
-            by: catcher_of(next, found, Caught::Uncaught, by),
+            by: catcher_of(next, found, None, by),
         };
     }
     Finding { found, by }
@@ -155,8 +156,8 @@ pub fn least_treated_behind(
     x: &[u32; SIDES],
     q: Sets,
     uncaught: bool,
-    best: Found,
-) -> Found
+    best: Option<Header>,
+) -> Option<Header>
     ensures { result ≡ lesser (least_in headers (box_of x.now 0) (λ h. missed (rows_in front.now) h && judged q uncaught (allowed (rows_in rows.now) h))) best }
 {
     if is_exhausted(front, &rows[0..0], x, best) {

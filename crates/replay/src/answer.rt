@@ -1,148 +1,127 @@
 // The starts of lines: what was answered.
-use crate::print::{print, print_header, print_number};
-use bench::calls::{FileAnswer, MergeAnswer, WithdrawAnswer};
-use bench::named::Named;
-use compare::files::Compared;
-use lookup::file::Looked;
-use policy::entry::Caught;
-use policy::refusal::{Refusal, number_of};
-use region::search::Searched;
+use crate::print::print_header;
+use compare::files::RefusedFile;
+use policy::header::Header;
+use policy::refusal::Refusal;
+use reconcile::ending::Merged;
+use region::search::FoundHeader;
 use std::io;
-use wire::write::Written;
 
 pub(crate) fn accepted(rt: &impl Print) -> io::Result<()> {
-    print(rt, b"ok")
+    print!(rt; "ok")
 }
 
 // The number that C gets.
 pub(crate) fn numbered(rt: &impl Print, n: u32) -> io::Result<()> {
-    accepted(rt)?;
-    print_number(rt, n as u64)
+    print!(rt; "ok {n}")
 }
 
 // A refusal's number and what it carries.
 fn print_refusal(rt: &impl Print, r: Refusal) -> io::Result<()> {
-    print_number(rt, number_of(r) as u64)?;
+    print!(rt; " {}", r.number())?;
     match r {
-        Refusal::Crossed(i) => print_number(rt, i as u64),
+        Refusal::Crossed(i) => print!(rt; " {i}"),
         Refusal::Gap(h) => print_header(rt, h),
         Refusal::Conflict(h) => print_header(rt, h),
-        Refusal::Narrow(n) => print_number(rt, n as u64),
+        Refusal::Narrow(n) => print!(rt; " {n}"),
         _ => Ok(()),
     }
 }
 
 pub(crate) fn refused(rt: &impl Print, r: Refusal) -> io::Result<()> {
-    print(rt, b"no")?;
+    print!(rt; "no")?;
     print_refusal(rt, r)
 }
 
-// A refusal of the first or the second file.
-fn refused_file(rt: &impl Print, file: u64, r: Refusal) -> io::Result<()> {
-    print(rt, b"no")?;
-    print_number(rt, file)?;
-    print_refusal(rt, r)
-}
-
-pub(crate) fn filed(rt: &impl Print, a: FileAnswer) -> io::Result<()> {
-    match a {
-        FileAnswer::Filed(n) => {
-            accepted(rt)?;
-            print_number(rt, n as u64)
-        }
-        FileAnswer::Refused(r) => refused(rt, r),
+// How many entries were filed, or bytes written.
+pub(crate) fn counted(rt: &impl Print, answer: Result<usize, Refusal>) -> io::Result<()> {
+    match answer {
+        Ok(n) => print!(rt; "ok {n}"),
+        Err(r) => refused(rt, r),
     }
 }
 
-pub(crate) fn withdrawn(rt: &impl Print, a: WithdrawAnswer) -> io::Result<()> {
-    match a {
-        WithdrawAnswer::Withdrawn => accepted(rt),
-        WithdrawAnswer::Refused(r) => refused(rt, r),
-    }
-}
-
-// An entry's number, nothing for uncaught.
-fn print_caught(rt: &impl Print, c: Caught) -> io::Result<()> {
-    match c {
-        Caught::By(i) => print_number(rt, i as u64),
-        Caught::Uncaught => Ok(()),
-    }
-}
-
-// A party's number and that of the entry named, if one is.
-fn print_named(rt: &impl Print, party: usize, c: Caught) -> io::Result<()> {
-    match c {
-        Caught::By(i) => {
-            print_number(rt, party as u64)?;
-            print_number(rt, i as u64)
-        }
-        Caught::Uncaught => Ok(()),
+pub(crate) fn withdrawn(rt: &impl Print, answer: Result<(), Refusal>) -> io::Result<()> {
+    match answer {
+        Ok(()) => accepted(rt),
+        Err(r) => refused(rt, r),
     }
 }
 
 // The entries that a conflict names, of party 1 on.
-fn print_entries(rt: &impl Print, named: [Named; 8]) -> io::Result<()> {
-    for (i, n) in named.iter().enumerate() {
-        print_named(rt, i + 1, n.entry)?;
+fn print_named(rt: &impl Print, named: [Option<usize>; 8]) -> io::Result<()> {
+    for (i, entry) in named.iter().enumerate() {
+        if let Some(entry) = *entry {
+            print!(rt; " {} {entry}", i + 1)?;
+        }
     }
     Ok(())
 }
 
-pub(crate) fn merged(rt: &impl Print, a: MergeAnswer, named: [Named; 8]) -> io::Result<()> {
-    match a {
-        MergeAnswer::Merged { count, length } => {
-            accepted(rt)?;
-            print_number(rt, count as u64)?;
-            print_number(rt, length as u64)?;
-        }
-        MergeAnswer::Refused(r) => refused(rt, r)?,
+pub(crate) fn merged(
+    rt: &impl Print,
+    answer: Result<Merged, Refusal>,
+    named: [Option<usize>; 8],
+) -> io::Result<()> {
+    match answer {
+        Ok(merged) => print!(rt; "ok {} {}", merged.count, merged.length)?,
+        Err(r) => refused(rt, r)?,
     }
-    print_entries(rt, named)
+    print_named(rt, named)
 }
 
-pub(crate) fn written(rt: &impl Print, w: Written) -> io::Result<()> {
-    match w {
-        Written::Done(length) => {
-            accepted(rt)?;
-            print_number(rt, length as u64)
-        }
-        Written::Refused(r) => refused(rt, r),
+// An entry's number, nothing for uncaught.
+fn print_caught(rt: &impl Print, entry: Option<usize>) -> io::Result<()> {
+    match entry {
+        Some(i) => print!(rt; " {i}"),
+        None => Ok(()),
     }
 }
 
-pub(crate) fn caught(rt: &impl Print, c: Caught) -> io::Result<()> {
+pub(crate) fn caught(rt: &impl Print, entry: Option<usize>) -> io::Result<()> {
     accepted(rt)?;
-    print_caught(rt, c)
+    print_caught(rt, entry)
 }
 
-pub(crate) fn looked_up(rt: &impl Print, l: Looked) -> io::Result<()> {
-    match l {
-        Looked::Entry(i) => caught(rt, Caught::By(i)),
-        Looked::Uncaught => caught(rt, Caught::Uncaught),
-        Looked::Refused(r) => refused(rt, r),
+pub(crate) fn looked_up(rt: &impl Print, answer: Result<Option<usize>, Refusal>) -> io::Result<()> {
+    match answer {
+        Ok(entry) => caught(rt, entry),
+        Err(r) => refused(rt, r),
     }
 }
 
-pub(crate) fn compared(rt: &impl Print, c: Compared) -> io::Result<()> {
-    match c {
-        Compared::Yes => accepted(rt),
-        Compared::No(h) => {
+// A refusal of the first or the second file.
+fn refused_file(rt: &impl Print, file: u8, r: Refusal) -> io::Result<()> {
+    print!(rt; "no {file}")?;
+    print_refusal(rt, r)
+}
+
+pub(crate) fn compared(
+    rt: &impl Print,
+    answer: Result<Option<Header>, RefusedFile>,
+) -> io::Result<()> {
+    match answer {
+        Ok(None) => accepted(rt),
+        Ok(Some(h)) => {
             accepted(rt)?;
             print_header(rt, h)
         }
-        Compared::First(r) => refused_file(rt, 1, r),
-        Compared::Second(r) => refused_file(rt, 2, r),
+        Err(RefusedFile::First(r)) => refused_file(rt, 1, r),
+        Err(RefusedFile::Second(r)) => refused_file(rt, 2, r),
     }
 }
 
-pub(crate) fn searched(rt: &impl Print, s: Searched) -> io::Result<()> {
-    match s {
-        Searched::At { header, entry } => {
+pub(crate) fn searched(
+    rt: &impl Print,
+    answer: Result<Option<FoundHeader>, Refusal>,
+) -> io::Result<()> {
+    match answer {
+        Ok(None) => accepted(rt),
+        Ok(Some(found)) => {
             accepted(rt)?;
-            print_header(rt, header)?;
-            print_caught(rt, entry)
+            print_header(rt, found.header)?;
+            print_caught(rt, found.entry)
         }
-        Searched::Nothing => accepted(rt),
-        Searched::Refused(r) => refused(rt, r),
+        Err(r) => refused(rt, r),
     }
 }

@@ -1,84 +1,81 @@
-// Numbers, runs of bytes and buffers in the input. Each function takes any place; past the input's end numbers are 0.
-ghost use Rattle.std.specs.Prelude.{◌≤◌};
-
-use std::num::wrapping_add_usize;
-
-// Where a call ends that is cut short or has a number above its limit: past every input.
-pub const NOWHERE: usize = 18446744073709551615;
+// What is left of the input: numbers, bytes and buffers are taken from its front, one after the other. None where it ends before, or where a number is above
+// its limit.
+ghost use Rattle.std.specs.Prelude.{◌+◌, ◌≤◌, length, IfSome};
+ghost use Rattle.replay.specs.declared.input.TheConstants.{BUFFER_LIMIT};
 
 // The longest buffer that is lent.
 pub const BUFFER_LIMIT: usize = 16384;
 
-// The place n bytes behind another, or NOWHERE if the input ends before it.
-pub(crate) fn behind(s: &[u8], at: usize, n: usize) -> usize {
-    if s.len() < at {
-        return NOWHERE;
+// A buffer that is lent to a call, and the byte that fills it.
+#[derive(Clone, Copy)]
+pub(crate) struct Buffer {
+    pub size: usize,
+    pub filling: u8,
+    ghost within: { size ≤ BUFFER_LIMIT },
+}
+
+#[derive(Clone, Copy)]
+pub(crate) struct Input<'a> {
+    pub left: &'a [u8],
+}
+
+impl<'a> Input<'a> {
+    // The first N bytes.
+    fn array<const N: usize>(&mut self) -> Option<[u8; N]>
+        ensures shorter { length self.new.left.now ≤ length self.old.left.now }
+    {
+        let (first, left) = self.left.split_first_chunk::<N>()?;
+        self.left = left;
+        Some(*first)
     }
-    if s.len() - at < n {
-        return NOWHERE;
+
+    // Numbers of 1, 2 and 4 bytes. Each is a line over `array`, or says more than the others, so that one function over the width would be no plainer.
+    pub(crate) fn number1(&mut self) -> Option<u8>
+        ensures shorter { length self.new.left.now ≤ length self.old.left.now }
+        ensures taken { IfSome result (λ _. length self.new.left.now + 1 ≤ length self.old.left.now) }
+    {
+        let (first, left) = self.left.split_first()?;
+        self.left = left;
+        Some(*first)
     }
-    at + n
-}
 
-// The numbers of 1, 2 and 4 bytes that stand n bytes behind a place.
-pub(crate) fn number1(s: &[u8], at: usize, n: usize) -> u8 {
-    let i = wrapping_add_usize(at, n);
-    if i < s.len() {
-        return s[i];
+    pub(crate) fn number2(&mut self) -> Option<u16>
+        ensures shorter { length self.new.left.now ≤ length self.old.left.now }
+    {
+        Some(u16::from_be_bytes(self.array()?))
     }
-    0
-}
 
-pub(crate) fn number2(s: &[u8], at: usize, n: usize) -> u16 {
-    let i = wrapping_add_usize(at, n);
-    number1(s, i, 0) as u16 * 256 + number1(s, i, 1) as u16
-}
+    pub(crate) fn number4(&mut self) -> Option<u32>
+        ensures shorter { length self.new.left.now ≤ length self.old.left.now }
+    {
+        Some(u32::from_be_bytes(self.array()?))
+    }
 
-pub(crate) fn number4(s: &[u8], at: usize, n: usize) -> u32 {
-    let i = wrapping_add_usize(at, n);
-    number2(s, i, 0) as u32 * 65536 + number2(s, i, 2) as u32
-}
+    // The first n bytes.
+    pub(crate) fn part(&mut self, n: usize) -> Option<&'a [u8]>
+        ensures shorter { length self.new.left.now ≤ length self.old.left.now }
+    {
+        let (part, left) = self.left.split_at_checked(n)?;
+        self.left = left;
+        Some(part)
+    }
 
-// Where the bytes end whose length stands at a place.
-pub(crate) fn bytes_end(s: &[u8], at: usize) -> usize {
-    behind(s, behind(s, at, 4), number4(s, at, 0) as usize)
-}
+    // Bytes behind their length.
+    pub(crate) fn bytes(&mut self) -> Option<&'a [u8]>
+        ensures shorter { length self.new.left.now ≤ length self.old.left.now }
+    {
+        let n = self.number4()?;
+        self.part(n as usize)
+    }
 
-// The bytes from a place up to an end; none where these are no part of the input.
-fn part(s: &[u8], start: usize, end: usize) -> &[u8] {
-    if start <= end {
-        if end <= s.len() {
-            return &s[start..end];
+    pub(crate) fn buffer(&mut self) -> Option<Buffer>
+        ensures shorter { length self.new.left.now ≤ length self.old.left.now }
+    {
+        let size = self.number4()? as usize;
+        let filling = self.number1()?;
+        if BUFFER_LIMIT < size {
+            return None;
         }
+        Some(Buffer { size, filling })
     }
-    &s[0..0]
-}
-
-// The bytes whose length stands at a place.
-pub(crate) fn bytes(s: &[u8], at: usize) -> &[u8] {
-    part(s, wrapping_add_usize(at, 4), bytes_end(s, at))
-}
-
-// Where a buffer's length and filling end.
-pub(crate) fn buffer_end(s: &[u8], at: usize) -> usize {
-    if BUFFER_LIMIT < number4(s, at, 0) as usize {
-        return NOWHERE;
-    }
-    behind(s, at, 5)
-}
-
-// The length of the buffer at a place.
-pub(crate) fn buffer_length(s: &[u8], at: usize) -> usize
-    ensures { result ≤ 16384 }
-{
-    let n = number4(s, at, 0) as usize;
-    if BUFFER_LIMIT < n {
-        return 0;
-    }
-    n
-}
-
-// The byte that fills the buffer at a place.
-pub(crate) fn buffer_filling(s: &[u8], at: usize) -> u8 {
-    number1(s, at, 4)
 }

@@ -3,12 +3,12 @@
 
 mod answer;
 mod bench_calls;
+mod call;
 mod file_calls;
 mod input;
 mod lookup_calls;
 mod print;
 mod replay;
-mod table;
 mod value;
 
 use crate::replay::{INPUT_LIMIT, replay};

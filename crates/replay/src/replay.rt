@@ -1,82 +1,65 @@
-// A list of calls, each on the bench that the last one returned.
-use crate::bench_calls::{Step, file, install, merge, open, trial, withdraw};
+// A list of calls, each on the bench that the last one left.
+use crate::bench_calls::{file, install, merge, open, trial, withdraw};
+use crate::call::{Call, OPENING};
 use crate::file_calls::{compare, compare_for_c, read, search, write};
-use crate::input::NOWHERE;
+use crate::input::Input;
 use crate::lookup_calls::{look_up_for_c, look_up_number, look_up_record, look_up_table};
-use crate::print::print;
 use bench::calls::Bench;
 use std::io;
 
 // The most bytes of input.
 pub const INPUT_LIMIT: usize = 1048576;
 
-const OPENING: u8 = 0;
-
-// A call beside the bench, by its number.
-fn call_beside(rt: &impl Print, number: u8, s: &[u8], at: usize) -> io::Result<usize> {
-    match number {
-        4 => read(rt, s, at),
-        5 => write(rt, s, at),
-        6 => look_up_number(rt, s, at),
-        7 => look_up_record(rt, s, at),
-        8 => look_up_table(rt, s, at),
-        9 => compare(rt, s, at),
-        10 => search(rt, s, at),
-        19 => look_up_for_c(rt, s, at),
-        20 => compare_for_c(rt, s, at),
-        _ => Ok(NOWHERE),
-    }
-}
-
-// A call by its number, which stands before a place. Answers the bench and where the call ends.
-fn call(rt: &impl Print, b: Bench, number: u8, s: &[u8], at: usize) -> io::Result<Step> {
-    match number {
-        OPENING => open(rt, at),
-        1 => file(rt, b, s, at),
-        2 => withdraw(rt, b, s, at),
-        3 => merge(rt, b, s, at),
-        11 => install(rt, b, s, at),
-        12 => trial(rt, b, s, at),
-        _ => {
-            let end = call_beside(rt, number, s, at)?;
-            Ok(Step { bench: b, end })
-        }
+// Makes a call, and writes its line.
+fn make(rt: &impl Print, b: &mut Bench, call: Call<'_>) -> io::Result<()> {
+    match call {
+        Call::Open => open(rt, b),
+        Call::File { party, list } => file(rt, b, party, list),
+        Call::Withdraw { party } => withdraw(rt, b, party),
+        Call::Merge { buffer } => merge(rt, b, buffer),
+        Call::Read { file, buffer } => read(rt, file, buffer),
+        Call::Write { list, buffer } => write(rt, list.entries(), buffer),
+        Call::LookUpNumber { file, header } => look_up_number(rt, file, header),
+        Call::LookUpRecord { file, header } => look_up_record(rt, file, header),
+        Call::LookUpTable { table, header } => look_up_table(rt, table, header),
+        Call::Compare { first, second } => compare(rt, first, second),
+        Call::Search { file, within, want } => search(rt, file, &within, want),
+        Call::Install { ranking, buffer } => install(rt, b, ranking, buffer),
+        Call::Trial {
+            party,
+            list,
+            buffer,
+        } => trial(rt, b, party, list, buffer),
+        Call::LookUpForC { file, header } => look_up_for_c(rt, file, header),
+        Call::CompareForC {
+            first,
+            second,
+            buffer,
+        } => compare_for_c(rt, first, second, buffer),
     }
 }
 
 fn bad(rt: &impl Print) -> io::Result<()> {
-    print(rt, b"bad\n")
+    println!(rt; "bad")
 }
 
 // Makes the calls of a list that begins with an opening, up to its end or the first bad one.
 fn replay_calls(rt: &impl Print, s: &[u8]) -> io::Result<()> {
+    let mut input = Input { left: s };
     let mut bench = Bench::open();
-    let mut at: usize = 0;
-    while at < s.len() {
-        let step = call(rt, bench, s[at], s, at + 1)?;
-        let end = step.end;
-        if end <= at {
+    while !input.left.is_empty() {
+        let Some(call) = input.call() else {
             return bad(rt);
-        }
-        if s.len() < end {
-            return bad(rt);
-        }
-        let next = step.bench;
-        bench = next;
-        at = end;
+        };
+        make(rt, &mut bench, call)?;
     }
     Ok(())
 }
 
 pub(crate) fn replay(rt: &impl Print, s: &[u8]) -> io::Result<()> {
-    if s.len() == 0 {
-        return Ok(());
+    match s.first() {
+        None => Ok(()),
+        Some(&OPENING) if s.len() <= INPUT_LIMIT => replay_calls(rt, s),
+        Some(_) => bad(rt),
     }
-    if INPUT_LIMIT < s.len() {
-        return bad(rt);
-    }
-    if s[0] != OPENING {
-        return bad(rt);
-    }
-    replay_calls(rt, s)
 }

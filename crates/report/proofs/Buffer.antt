@@ -1,14 +1,16 @@
 -- Text put into a buffer: none, a byte, and one text behind another, which is the two as one text.
 -- Assumes nothing.
-use Prim.Native.Nat.{ℕ, zero, suc, ◌+◌, ◌≤◌, ◌<◌, min}
+use Prim.Native.Nat.{ℕ, zero, suc, ◌+◌, ◌<◌, min}
 use native.Mathlib.Nat.{zero-add, suc-add, sub-zero, zero-sub, suc-sub-suc, zero-min, suc-min-suc}
 use native.Mathlib.Omega.{arith}
 use mathlib.Core.Path.{◌≡◌, refl, sym, ◌∙◌, ap, subst}
 use mathlib.Core.List.{List, [], ◌∷◌, ◌++◌}
 use lib.ListN.{length, set, length-append}
-use lib.Seq.{take-nil, drop-nil, set_out}
+use lib.Seq.{take-nil, drop-nil}
 use Rattle.report.specs.Text.{with_text}
+use Rattle.report.specs.declared.page.Page.{Page}
 use Rattle.report.specs.steps.Printed.{Printed}
+use Rattle.report.specs.steps.Puts.{Puts}
 
 -- the same, byte over byte
 over : List ℕ → ℕ → List ℕ → List ℕ
@@ -60,30 +62,16 @@ over_none (o ∷ out) (suc at) = ap (o ∷◌) (over_none out at)
 
 -- ---- printing
 
-pub none : (out : List ℕ) (at : ℕ) → at ≤ length out → Printed out at [] out at
-none out at h = record { contents = sym (is_over out at [] ∙ over_none out at); end = omega arith }
-
 pub byte : (out : List ℕ) (at b : ℕ) → at < length out → Printed out at (b ∷ []) (set out at b) (at + 1)
 byte out at b h = record { contents = sym (is_over out at (b ∷ []) ∙ over_set out at b); end = omega arith }
 
--- no room
-pub full : (out : List ℕ) (at b : ℕ) → at ≤ length out → length out ≤ at → Printed out at (b ∷ []) out at
-full out at b h f = record { contents = sym (is_over out at (b ∷ []) ∙ over_set out at b ∙ set_out out at b f); end = omega arith }
-
-module _ {out after : List ℕ} {at next : ℕ} {s : List ℕ} (p : Printed out at s after next) where
-  -- the buffer keeps its length, and the next place is within it
-  pub keeps : length after ≡ length out
-  keeps = ap length (p.contents ∙ is_over out at s) ∙ over_length out at s
-
-  pub within : next ≤ length after
-  within = omega (arith, keeps, p.end)
-
-  pub same : {t : List ℕ} → s ≡ t → Printed out at t after next
-  same e = subst (λ (u : List ℕ). Printed out at u after next) e p
+-- the buffer keeps its length
+keeps : {out after : List ℕ} {at next : ℕ} {s : List ℕ} → Printed out at s after next → length after ≡ length out
+keeps {out} {at = at} {s = s} p = ap length (p.contents ∙ is_over out at s) ∙ over_length out at s
 
 -- one text behind another is the two as one text
-pub more : {out after last : List ℕ} {at next end : ℕ} {s t : List ℕ} → Printed after next t last end → Printed out at s after next → Printed out at (s ++ t) last end
-more {out} {after} {last} {at} {next} {end} {s} {t} q p = record {
+printed_more : {out after last : List ℕ} {at next end : ℕ} {s t : List ℕ} → Printed after next t last end → Printed out at s after next → Printed out at (s ++ t) last end
+printed_more {out} {after} {last} {at} {next} {end} {s} {t} q p = record {
   contents =
       q.contents
       ∙ is_over after next t
@@ -94,3 +82,17 @@ more {out} {after} {last} {at} {next} {end} {s} {t} q p = record {
       ∙ sym (is_over out at (s ++ t));
   end = omega (arith, keeps p, p.end, q.end, length-append s t);
 }
+
+-- ---- on a page
+
+pub none : (a : Page) → Puts a a []
+none a = record {
+  buffer = refl;
+  printed = record { contents = sym (is_over a.out.now a.at [] ∙ over_none a.out.now a.at); end = omega (arith, a.inside) };
+}
+
+pub more : {a b c : Page} {s t : List ℕ} → Puts b c t → Puts a b s → Puts a c (s ++ t)
+more q p = record { buffer = q.buffer ∙ p.buffer; printed = printed_more q.printed p.printed }
+
+pub same : {a b : Page} {s t : List ℕ} → Puts a b s → s ≡ t → Puts a b t
+same {a} {b} p e = subst (Puts a b) e p

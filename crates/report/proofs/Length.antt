@@ -1,21 +1,17 @@
 -- How long the report is at most: each record but the last has at least 3 bytes, and its line at most 44.
 -- Assumes nothing.
+use Rattle.std.specs.Prelude.{None, Option, Some}
 use Prim.Native.Nat.{ℕ, zero, suc, ◌+◌, ◌*◌, ◌/◌, ◌%◌, ◌^◌, ◌≤◌, ◌<◌}
 use native.Mathlib.Nat.{pow-succ'}
 use native.Mathlib.Omega.{arith}
 use mathlib.Core.Path.{◌≡◌, refl, ◌∙◌, ap, subst}
 use mathlib.Core.Bool.{Bool, true, false, cond}
 use mathlib.Core.List.{List, [], ◌∷◌, ◌++◌}
-use mathlib.Core.Option.{Option, none, some}
 use lib.Dec.{ltb}
 use lib.ListN.{length, take, drop, length-append, length-take, length-drop, length-replicate, drop_of_length-le}
 use borrow.Author.Tests.{ltb-false, ltb-true}
-use Rattle.policy.specs.declared.header.Found.{Found}
-use Rattle.policy.specs.declared.header.Found.TheVariants.{At, Nothing}
 use Rattle.policy.specs.declared.header.Header.{Header}
 use Rattle.policy.specs.declared.entry.Entry.{Entry}
-use Rattle.policy.specs.declared.entry.Caught.{Caught}
-use Rattle.policy.specs.declared.entry.Caught.TheVariants.{By, Uncaught}
 use Rattle.policy.specs.Policy.{catcher}
 use Rattle.policy.specs.declared.refusal.Refusal.{Refusal}
 use Rattle.policy.specs.declared.refusal.Refusal.TheVariants.{Missized, Version, Count, Crossed, Gap, Party, Bare, Crowded, Conflict, Narrow}
@@ -81,35 +77,35 @@ entry_length i h = omega (arith, digits_within 4 i (omega arith))
 module _ (P : Answer → Type 0) where
   abbrev Each : List (Option Answer) → Type 0
   Each [] = Unit {0}
-  Each (some a ∷ rs) = P a × Each rs
-  Each (none ∷ rs) = Each rs
+  Each (Some a ∷ rs) = P a × Each rs
+  Each (None ∷ rs) = Each rs
 
   first_has : (rs : List (Option Answer)) (a : Answer) → Each rs → P a → P (first_of rs a)
   first_has [] a e p = p
-  first_has (some b ∷ rs) a e p = e.0
-  first_has (none ∷ rs) a e p = first_has rs a e p
+  first_has (Some b ∷ rs) a e p = e.0
+  first_has (None ∷ rs) a e p = first_has rs a e p
 
   each_refuse : (b : Bool) (r : Refusal) (rs : List (Option Answer)) → P (refusal r) → Each rs → Each (refuse b r ∷ rs)
   each_refuse true r rs p e = (p, e)
   each_refuse false r rs p e = e
 
-  each_header : (r : Header → Refusal) (f : Found) (rs : List (Option Answer)) → ((h : Header) → P (refusal (r h))) → Each rs → Each (refuse_at r f ∷ rs)
-  each_header r (At h) rs p e = (p h, e)
-  each_header r Nothing rs p e = e
+  each_header : (r : Header → Refusal) (f : Option Header) (rs : List (Option Answer)) → ((h : Header) → P (refusal (r h))) → Each rs → Each (refuse_at r f ∷ rs)
+  each_header r (Some h) rs p e = (p h, e)
+  each_header r None rs p e = e
 
-  each_entry : (f : Option ℕ) (rs : List (Option Answer)) → ((i : ℕ) → f ≡ some i → P (refusal (Crossed i))) → Each rs → Each (refuse_entry Crossed f ∷ rs)
-  each_entry (some i) rs p e = (p i refl, e)
-  each_entry none rs p e = e
+  each_entry : (f : Option ℕ) (rs : List (Option Answer)) → ((i : ℕ) → f ≡ Some i → P (refusal (Crossed i))) → Each rs → Each (refuse_entry Crossed f ∷ rs)
+  each_entry (Some i) rs p e = (p i refl, e)
+  each_entry None rs p e = e
 
 -- a crossed entry is one of the list
-crossed_within : (k : ℕ) (p : List Entry) (i : ℕ) → first_from crossed k p ≡ some i → i < k + length p
+crossed_within : (k : ℕ) (p : List Entry) (i : ℕ) → first_from crossed k p ≡ Some i → i < k + length p
 crossed_within k [] i e = absurd (let z : ◌≡◌ {A = ℕ} 0 1 = cc in omega arith)
 crossed_within k (x ∷ p) i e = go (λ e. crossed_within (k + 1) p i e) (crossed x) e
   where
-    taken : (a b : ℕ) → some a ≡ some b → a ≡ b
+    taken : (a b : ℕ) → Some a ≡ Some b → a ≡ b
     taken a b e = cc
 
-    go : (first_from crossed (k + 1) p ≡ some i → i < k + 1 + length p) → (t : Bool) → cond t (some k) (first_from crossed (k + 1) p) ≡ some i → i < k + length (x ∷ p)
+    go : (first_from crossed (k + 1) p ≡ Some i → i < k + 1 + length p) → (t : Bool) → cond t (Some k) (first_from crossed (k + 1) p) ≡ Some i → i < k + length (x ∷ p)
     go rest true e = omega (arith, taken k i e)
     go rest false e = omega (arith, rest e)
 
@@ -190,17 +186,17 @@ merged_length n file h = simp length-append (omega (arith, digits_within 2 n (om
 -- what a conflict names: ` P:E` with one digit for a party, and at most two for an entry of a filed list
 names_length : (p : ℕ) (k : Book) (h : Header) → EachSlot (λ q. length q ≤ filed_limit) k → p + length k ≤ 10 → length (entries_text (catchers_from p k h)) ≤ 5 * length k
 names_length p [] h few l = omega arith
-names_length p (none ∷ k) h few l = omega (arith, names_length (p + 1) k h few (omega arith))
-names_length p (some q ∷ k) h few l = go (catcher q h) refl (names_length (p + 1) k h few.1 (omega arith))
+names_length p (None ∷ k) h few l = omega (arith, names_length (p + 1) k h few (omega arith))
+names_length p (Some q ∷ k) h few l = go (catcher q h) refl (names_length (p + 1) k h few.1 (omega arith))
   where
-    go : (c : Caught) → catcher q h ≡ c → length (entries_text (catchers_from (p + 1) k h)) ≤ 5 * length k → length (entries_text (entry_of p c ++ catchers_from (p + 1) k h)) ≤ 5 * length (some q ∷ k)
-    go Uncaught e rest = omega arith
-    go (By i) e rest = simp length-append (omega (arith, rest, digits_within 0 p (omega arith), digits_within 1 i (omega (arith, caught_below q h i e, few.0))))
+    go : (c : Option ℕ) → catcher q h ≡ c → length (entries_text (catchers_from (p + 1) k h)) ≤ 5 * length k → length (entries_text (entry_of p c ++ catchers_from (p + 1) k h)) ≤ 5 * length (Some q ∷ k)
+    go None e rest = omega arith
+    go (Some i) e rest = simp length-append (omega (arith, rest, digits_within 0 p (omega arith), digits_within 1 i (omega (arith, caught_below q h i e, few.0))))
 
-conflict_length : (k : Book) (h : Header) (f : Found) → EachSlot (λ q. length q ≤ filed_limit) k → length k ≡ parties
+conflict_length : (k : Book) (h : Header) (f : Option Header) → EachSlot (λ q. length q ≤ filed_limit) k → length k ≡ parties
     → length (refused_line 0 (also (refusal (Conflict h)) (entries_at k f))) ≤ 15627
-conflict_length k h (At g) few n = simp length-append (omega (arith, names_length 1 k g few (omega arith), digits_within 1 10 (omega arith), digits_within 0 0 (omega arith)))
-conflict_length k h Nothing few n = simp length-append (omega (arith, digits_within 1 10 (omega arith), digits_within 0 0 (omega arith)))
+conflict_length k h (Some g) few n = simp length-append (omega (arith, names_length 1 k g few (omega arith), digits_within 1 10 (omega arith), digits_within 0 0 (omega arith)))
+conflict_length k h None few n = simp length-append (omega (arith, digits_within 1 10 (omega arith), digits_within 0 0 (omega arith)))
 
 merging_length : (k : Book) → EachSlot (λ q. length q ≤ filed_limit) k → length k ≡ parties → (buffer : List ℕ) → length buffer ≡ file_size merged_version list_limit
     → length (merging_lines (merging_of k buffer)) ≤ 15627

@@ -1,21 +1,16 @@
 // The records of the input: a party byte, then a file.
-ghost use Rattle.std.specs.Prelude.{◌≡◌, ◌+◌, ◌≤◌, length, drop};
+ghost use Rattle.std.specs.Prelude.{◌≡◌};
 ghost use Rattle.report.specs.Report.{file_run};
 
-use wire::number::read2;
+use std::cmp::min;
+use wire::number::Number;
 
-// Where the file that starts at a place of the input ends: behind its L + 2 bytes, or at the end of the input if less is left.
-pub(crate) fn file_end(input: &[u8], start: usize) -> usize
-    requires { start ≤ length input.now }
-    ensures { result ≡ start + file_run (drop start input.now) }
+// How long the file is with which the rest of the input begins: its L + 2 bytes, or all that is left if that is less.
+pub(crate) fn file_run(left: &[u8]) -> usize
+    ensures { result ≡ file_run left.now }
 {
-    let left = input.len() - start;
-    if left < 2 {
-        return input.len();
+    if left.len() < 2 {
+        return left.len();
     }
-    let size = read2(input, start) as usize + 2;
-    if left < size {
-        return input.len();
-    }
-    start + size
+    min(u16::read(left, 0) as usize + 2, left.len())
 }

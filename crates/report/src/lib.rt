@@ -7,15 +7,13 @@ mod line;
 mod merged;
 mod merging;
 mod named;
-mod text;
+mod page;
 
 ghost use Rattle.std.specs.Prelude.{◌≡◌, List, ℕ, ◌≤◌, min, length, take};
 ghost use Rattle.report.specs.Text.{with_text};
 ghost use Rattle.report.specs.Report.{report_of, report_size};
 
-use crate::filings::put_filings;
-use crate::merging::put_merging;
-use crate::text::put;
+use crate::page::Page;
 
 // The most bytes of input.
 pub const INPUT_LIMIT: usize = 65536;
@@ -29,11 +27,13 @@ pub fn report(input: &[u8], out: &mut [u8]) -> usize
         (min (length (report_of input.now)) (length out.old), with_text out.old 0 (report_of input.now)) }
     ensures whole { report_size ≤ length out.old → take result out.new ≡ report_of input.now }
 {
+    // Two returns: where branches join, the check no longer knows that the page is of `out`.
+    let mut page = Page { out, at: 0 };
     if INPUT_LIMIT < input.len() {
-        return put(out, 0, b"input too long\n");
+        page.put(b"input too long\n");
+        return page.at;
     }
-    let f = put_filings(out, input);
-    let at = f.at;
-    let bench = f.bench;
-    put_merging(out, at, bench)
+    let bench = page.put_filings(input);
+    page.put_merging(bench);
+    page.at
 }

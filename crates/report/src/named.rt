@@ -1,41 +1,32 @@
 // The entries that a refusal for conflict names.
-ghost use Rattle.std.specs.Prelude.{◌≤◌, length};
 ghost use Rattle.bench.specs.Answers.{entry_of, named_from};
-ghost use Rattle.report.specs.steps.Printed.{Printed};
+ghost use Rattle.report.specs.steps.Puts.{Puts};
 ghost use Rattle.report.specs.Report.{entries_text};
 
-use crate::text::{put, put_decimal};
-use bench::named::Named;
-use policy::entry::Caught;
+use crate::page::Page;
 
-// A party's number and that of its entry, if it has one.
-fn put_entry_of(out: &mut [u8], at: usize, party: usize, entry: Caught) -> usize
-    requires { at ≤ length out.old }
-    ensures { Printed out.old at (entries_text (entry_of party entry)) out.new result }
-{
-    match entry {
-        Caught::By(i) => {
-            let space = put(out, at, b" ");
-            let number = put_decimal(out, space, party);
-            let colon = put(out, number, b":");
-            put_decimal(out, colon, i)
+impl Page<'_> {
+    // A party's number and that of its entry, if it has one.
+    fn put_entry_of(&mut self, party: usize, entry: Option<usize>)
+        ensures { Puts self.old self.new (entries_text (entry_of party entry)) }
+    {
+        match entry {
+            Some(i) => {
+                self.put(b" ");
+                self.put_decimal(party);
+                self.put(b":");
+                self.put_decimal(i);
+            }
+            None => {}
         }
-        Caught::Uncaught => at,
     }
-}
 
-// The same for each party.
-pub(crate) fn put_named(out: &mut [u8], at: usize, named: [Named; 8]) -> usize
-    requires { at ≤ length out.old }
-    ensures { Printed out.old at (entries_text (named_from 1 named)) out.new result }
-{
-    let mut next = at;
-    let mut i: usize = 0;
-    while i < 8 {
-        let n = named[i];
-        let entry = n.entry;
-        i += 1;
-        next = put_entry_of(out, next, i, entry);
+    // The same for each party.
+    pub(crate) fn put_named(&mut self, named: [Option<usize>; 8])
+        ensures { Puts self.old self.new (entries_text (named_from 1 named)) }
+    {
+        for (i, entry) in named.iter().enumerate() {
+            self.put_entry_of(i + 1, *entry);
+        }
     }
-    next
 }

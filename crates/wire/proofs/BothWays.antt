@@ -9,18 +9,12 @@ use Rattle.policy.specs.declared.entry.Entry.{Entry}
 use Rattle.policy.specs.Entry.{crossed}
 use Rattle.wire.specs.Writing.{both_ways, crossed_in}
 
-pub not_inbound : (e : Entry) → (e.direction_low ≡ 0 → ⊥) → false ≡ both_ways e
-not_inbound e n = sym (ap (◌&& eqb e.direction_high 1) (ne_eqb e.direction_low 0 n))
-
-pub by_outbound : (e : Entry) → e.direction_low ≡ 0 → eqb e.direction_high 1 ≡ both_ways e
-by_outbound e z = sym (ap (◌&& eqb e.direction_high 1) (eq-eqb e.direction_low 0 z))
-
 module _ (v : ℕ) (e : Entry) (t : Bool) (q : t ≡ crossed e) where
-  pub crossed_anyway : t ≡ true → true ≡ crossed_in v e
-  crossed_anyway c = sym (ap (◌|| (eqb v 1 && not (both_ways e))) (sym q ∙ c))
+  pub crossed_anyway : t ≡ true → t ≡ crossed_in v e
+  crossed_anyway c = c ∙ sym (ap (◌|| (eqb v 1 && not (both_ways e))) (sym q ∙ c))
 
-  pub crossed_in_none : t ≡ false → (v ≡ 1 → ⊥) → false ≡ crossed_in v e
-  crossed_in_none c n = sym (ap₂ (λ (a b : Bool). a || (b && not (both_ways e))) (sym q ∙ c) (ne_eqb v 1 n))
+  pub crossed_in_none : t ≡ false → (v ≡ 1 → ⊥) → eqb v 1 ≡ crossed_in v e
+  crossed_in_none c n = ne_eqb v 1 n ∙ sym (ap₂ (λ (a b : Bool). a || (b && not (both_ways e))) (sym q ∙ c) (ne_eqb v 1 n))
 
   pub crossed_by_ways : (u : Bool) → t ≡ false → v ≡ 1 → u ≡ both_ways e → not u ≡ crossed_in v e
   crossed_by_ways u c one w = ap not w ∙ sym (ap₂ (λ (a b : Bool). a || (b && not (both_ways e))) (sym q ∙ c) (eq-eqb v 1 one))

@@ -1,4 +1,3 @@
-pub mod Within
 pub mod Answers
 pub mod Bytes
 pub mod Numbers
@@ -7,7 +6,6 @@ pub mod Entries
 pub mod Records
 pub mod CountCheck
 pub mod BothWays
-pub mod CrossedBytes
 pub mod Checks
 pub mod Checked
 pub mod Lists
@@ -15,4 +13,3 @@ pub mod Readings
 pub mod Writing
 pub mod RoundTrip
 pub mod PutRows
-pub mod PutHeader

@@ -1,5 +1,6 @@
 -- Entries and their bytes: from bytes and back, and to bytes and back.
 -- Assumes nothing.
+use Rattle.std.specs.Prelude.{None, Option, Some}
 use Prim.Native.Nat.{ℕ, zero, suc, ◌+◌, ◌*◌, ◌-◌, ◌≤◌, ◌<◌}
 use native.Mathlib.Omega.{arith}
 use native.Mathlib.Nat.{zero-add}
@@ -7,7 +8,6 @@ use native.Mathlib.Numerals.{add-one}
 use mathlib.Core.Path.{◌≡◌, refl, sym, ◌∙◌, ap, ap₂, subst}
 use mathlib.Core.Bool.{Bool, true, false, not, cond, ◌&&◌, ◌||◌, or-false}
 use mathlib.Core.List.{List, [], ◌∷◌, ◌++◌, append_assoc}
-use mathlib.Core.Option.{Option, none, some}
 use lib.Dec.{eqb}
 use lib.ListN.{length, get_or, take, drop, length-drop, length-append}
 use lib.Seq.{take-suc, take-add, drop-drop, drop-cons, get_or-drop, get_or-append-add}
@@ -66,10 +66,10 @@ record_at v s at f l =
 -- n records
 pub records_from : (v : ℕ) (s : List ℕ) (i n : ℕ) → Bytes s → file_size v (i + n) ≤ length s
     → records_of v (entries_as v s i n) ≡ take (record_size v * n) (drop (file_size v i) s)
-records_from v s i zero f l = ap (λ (k : ℕ). take k (drop (file_size v i) s)) (none (record_size v))
+records_from v s i zero f l = ap (λ (k : ℕ). take k (drop (file_size v i) s)) (nothing (record_size v))
   where
-    none : (k : ℕ) → 0 ≡ k * 0
-    none k = omega arith
+    nothing : (k : ℕ) → 0 ≡ k * 0
+    nothing k = omega arith
 records_from v s i (suc n) f l =
     ap₂ (◌++◌) (record_at v s (file_size v i) f (omega (arith, size_next v i, size_within v (i + 1) (i + suc n) (omega arith)))) (records_from v s (i + 1) n f (omega (arith, ap (file_size v) (onward i n))))
     ∙ ap (λ (r : List ℕ). take (record_size v) (drop (file_size v i) s) ++ take (record_size v * n) r)
@@ -165,12 +165,12 @@ AllHold v [] = Unit {0}
 AllHold v (e ∷ p) = Holds v e × AllHold v p
 
 -- where none is crossed in the version's sense
-pub uncrossed_hold : (v i : ℕ) (p : List Entry) → AllFit p → first_from (crossed_in v) i p ≡ none → AllHold v p
+pub uncrossed_hold : (v i : ℕ) (p : List Entry) → AllFit p → first_from (crossed_in v) i p ≡ None → AllHold v p
 uncrossed_hold v i [] f u = tt
 uncrossed_hold v i (e ∷ p) f u = go (crossed e) (eqb v 1) (both_ways e) refl refl u (uncrossed_hold v (i + 1) p f.1)
   where
-    go : (c o w : Bool) → eqb v 1 ≡ o → both_ways e ≡ w → cond (c || (o && not w)) (some i) (first_from (crossed_in v) (i + 1) p) ≡ none
-        → (first_from (crossed_in v) (i + 1) p ≡ none → AllHold v p) → AllHold v (e ∷ p)
+    go : (c o w : Bool) → eqb v 1 ≡ o → both_ways e ≡ w → cond (c || (o && not w)) (Some i) (first_from (crossed_in v) (i + 1) p) ≡ None
+        → (first_from (crossed_in v) (i + 1) p ≡ None → AllHold v p) → AllHold v (e ∷ p)
     go true o w q r u ih = absurd (let z : ◌≡◌ {A = ℕ} 0 1 = cc in omega arith)
     go false true true q r u ih = (record { fit = f.0; ways = λ t. r }, ih u)
     go false true false q r u ih = absurd (let z : ◌≡◌ {A = ℕ} 0 1 = cc in omega arith)
@@ -182,12 +182,12 @@ merged_hold [] f = tt
 merged_hold (e ∷ p) f = (record { fit = f.0; ways = λ t. clash t refl }, merged_hold p f.1)
 
 -- uncrossed in the version's sense, uncrossed
-pub uncrossed_plainly : (v i : ℕ) (p : List Entry) → first_from (crossed_in v) i p ≡ none → first_from crossed i p ≡ none
+pub uncrossed_plainly : (v i : ℕ) (p : List Entry) → first_from (crossed_in v) i p ≡ None → first_from crossed i p ≡ None
 uncrossed_plainly v i [] u = refl
 uncrossed_plainly v i (e ∷ p) u = go (crossed e) (eqb v 1 && not (both_ways e)) u (uncrossed_plainly v (i + 1) p)
   where
-    go : (c d : Bool) → cond (c || d) (some i) (first_from (crossed_in v) (i + 1) p) ≡ none
-        → (first_from (crossed_in v) (i + 1) p ≡ none → first_from crossed (i + 1) p ≡ none) → cond c (some i) (first_from crossed (i + 1) p) ≡ none
+    go : (c d : Bool) → cond (c || d) (Some i) (first_from (crossed_in v) (i + 1) p) ≡ None
+        → (first_from (crossed_in v) (i + 1) p ≡ None → first_from crossed (i + 1) p ≡ None) → cond c (Some i) (first_from crossed (i + 1) p) ≡ None
     go true d u ih = absurd (let z : ◌≡◌ {A = ℕ} 0 1 = cc in omega arith)
     go false true u ih = absurd (let z : ◌≡◌ {A = ℕ} 0 1 = cc in omega arith)
     go false false u ih = ih u
@@ -203,7 +203,7 @@ entry_crossed v s at = ap (crossed (entry_at v s at) ||◌) (go (eqb v 1)) ∙ o
 pub entries_crossed : (v j : ℕ) (s : List ℕ) (i n : ℕ) → first_from (crossed_in v) j (entries_as v s i n) ≡ first_from crossed j (entries_as v s i n)
 entries_crossed v j s i zero = refl
 entries_crossed v j s i (suc n) =
-    ap₂ (λ (b : Bool) (o : Option ℕ). cond b (some j) o) (entry_crossed v s (file_size v i)) (entries_crossed v (j + 1) s (i + 1) n)
+    ap₂ (λ (b : Bool) (o : Option ℕ). cond b (Some j) o) (entry_crossed v s (file_size v i)) (entries_crossed v (j + 1) s (i + 1) n)
 
 -- the entry at the start of its own record
 pub entry_again : (v : ℕ) (e : Entry) (r : List ℕ) → Holds v e → entry_at v (record_of v e ++ r) 0 ≡ e
@@ -255,10 +255,10 @@ length_record v e = go (eqb v 1)
     go false = refl
 
 pub length_records : (v : ℕ) (p : List Entry) → length (records_of v p) ≡ record_size v * length p
-length_records v [] = none (record_size v)
+length_records v [] = nothing (record_size v)
   where
-    none : (k : ℕ) → 0 ≡ k * 0
-    none k = omega arith
+    nothing : (k : ℕ) → 0 ≡ k * 0
+    nothing k = omega arith
 length_records v (e ∷ p) =
     length-append (record_of v e) (records_of v p)
     ∙ ap₂ (◌+◌) (length_record v e) (length_records v p)
@@ -293,7 +293,7 @@ entries_again v front i (e ∷ p) r l f =
 
 -- the entries of a list's file, whatever bytes come after
 pub entries_in_file : (v : ℕ) (p : List Entry) (r : List ℕ) → AllHold v p → entries_from (file_of v p ++ r) 0 (length p) ≡ p
-entries_in_file v p r f = entries_again v (head_of v (length p)) 0 p r (none (record_size v)) f
+entries_in_file v p r f = entries_again v (head_of v (length p)) 0 p r (nothing (record_size v)) f
   where
-    none : (k : ℕ) → head_size ≡ head_size + k * 0
-    none k = omega arith
+    nothing : (k : ℕ) → head_size ≡ head_size + k * 0
+    nothing k = omega arith

@@ -5,12 +5,13 @@ use native.Mathlib.Omega.{arith}
 use mathlib.Core.Path.{◌≡◌, refl, sym, ◌∙◌, ap, ap₂, subst}
 use mathlib.Core.Bool.{Bool, true, false, not}
 use mathlib.Core.List.{List, [], ◌∷◌, ◌++◌, append-nil}
-use mathlib.Core.Option.{none}
 use native.Mathlib.Nat.{zero-add}
 use lib.ListN.{length, take, drop}
 use borrow.Author.Tests.{lt-ltb}
 use lib.Seq.{take_all, take-add, take_at, take-append_seam, length-take-le}
+use Rattle.std.specs.Prelude.{Result, Ok, None}
 use Rattle.policy.specs.declared.entry.Entry.{Entry}
+use Rattle.policy.specs.declared.refusal.Refusal.{Refusal}
 use Rattle.policy.specs.declared.refusal.Refusal.TheVariants.{Narrow}
 use Rattle.policy.specs.Entry.{crossed}
 use Rattle.policy.specs.Refusals.{Answer, refusal, accepted}
@@ -30,9 +31,6 @@ use Rattle.wire.specs.steps.Crossed.{crossed_of}
 use Rattle.wire.proofs.Checks.{sized, within_limits, limits_told, counted, crossed_none, by_entries}
 use Rattle.wire.proofs.Checked.{accepted_tells}
 use Rattle.wire.proofs.Writing.{write_accepted, written, accepted_write}
-use Rattle.wire.specs.declared.check.Checked.{Checked}
-use Rattle.wire.specs.declared.check.Checked.TheVariants.{Good}
-use Rattle.wire.specs.declared.write.Written.TheVariants as answers
 
 -- Demand 2, "a file read as a list and written again is the same file": one that passes the checks, in its version.
 pub read_and_written : (s : List ℕ) (limit n : ℕ) → Bytes s → checks_of s limit ≡ accepted (n ∷ []) → file_of (version_in s) (list_in s) ≡ s
@@ -54,7 +52,7 @@ pub written_and_read : (v : ℕ) (p : List Entry) (r : List ℕ) → length p �
 written_and_read v p r l f = ap (entries_from (file_of v p ++ r) 0) (join2 (length p) (omega arith)) ∙ entries_in_file v p r f
 
 -- and the written file passes the checks
-pub written_passes : (v : ℕ) (p : List Entry) (limit : ℕ) → is_version v ≡ true → 1 ≤ length p → length p ≤ limit → limit ≤ list_limit → AllHold v p → first_crossed p ≡ none
+pub written_passes : (v : ℕ) (p : List Entry) (limit : ℕ) → is_version v ≡ true → 1 ≤ length p → length p ≤ limit → limit ≤ list_limit → AllHold v p → first_crossed p ≡ None
     → checks_of (file_of v p) limit ≡ accepted (length p ∷ [])
 written_passes v p limit is least most all f u =
     let s = file_of v p in
@@ -76,7 +74,7 @@ pub held_listed : (v : ℕ) (p : List Entry) → held (listed v p) ≡ p
 held_listed v p = take-append_seam p _
 
 -- no entry of a good file's list is crossed in the sense of its version
-pub uncrossed_in : (s : List ℕ) → first_crossed (list_in s) ≡ none → first_crossed_in (version_in s) (list_in s) ≡ none
+pub uncrossed_in : (s : List ℕ) → first_crossed (list_in s) ≡ None → first_crossed_in (version_in s) (list_in s) ≡ None
 uncrossed_in s e = entries_crossed (version_in s) 0 s 0 (count_in s) ∙ e
 
 -- an accepted file that was read, and the list written to a buffer that has room: the buffer begins with the file
@@ -138,8 +136,8 @@ list_again l b c m a f h =
     (sym (after-accepted (length p ∷ []) (checks_of (file_of v p) list_limit) (listed v (list_in (file_of v p))) no_entries (sym k)) ∙ ap (listed v) q)
 
 -- the same of what the code has at hand
-pub written_again : (l : Entries) (b : List ℕ) → length l.entries ≡ list_limit → (o : Bool) → o ≡ is_version l.version → not o ≡ false → (r : Checked) (m n : ℕ) (c : List ℕ) → 1 ≤ l.count → l.count ≤ list_limit
-    → (checked r ≡ crossed_of (crossed_in l.version) (held l) l.count) × GoodFit r (held l) → r ≡ Good m → n ≡ file_size l.version l.count → n ≤ length b → c ≡ placed (file_of l.version (held l)) b
-    → ReadAgain l (answers.Done n) c
+pub written_again : (l : Entries) (b : List ℕ) → length l.entries ≡ list_limit → (o : Bool) → o ≡ is_version l.version → not o ≡ false → (r : Result ℕ Refusal) (m n : ℕ) (c : List ℕ) → 1 ≤ l.count → l.count ≤ list_limit
+    → (checked r ≡ crossed_of (crossed_in l.version) (held l) (length (held l))) × GoodFit r (held l) → r ≡ Ok m → n ≡ file_size l.version l.count → n ≤ length b → c ≡ placed (file_of l.version (held l)) b
+    → ReadAgain l (Ok n) c
 written_again l b a o v y r m n c p q f g k h w =
-    list_again l b c n a (subst (λ (x : Checked). GoodFit x (held l)) g f.1) (sym (written l b o v y r m n c p q f.0 g k h w))
+    list_again l b c n a (subst (λ (x : Result ℕ Refusal). GoodFit x (held l)) g f.1) (sym (written l b o v y r m n c p q f.0 g k h w))

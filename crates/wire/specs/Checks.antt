@@ -1,13 +1,10 @@
 -- Checks 1 to 4 of a file (01, "What is turned down").
-use Rattle.std.specs.Prelude.{ℕ, ◌+◌, ◌-◌, ◌/◌, ◌%◌, Bool, not, cond, ◌||◌, List, [], ◌∷◌, ltb, eqb, length}
-use Rattle.std.proofs.Math.Option.{Option, none, some}
+use Rattle.std.specs.Prelude.{ℕ, ◌+◌, ◌-◌, ◌/◌, ◌%◌, Bool, not, cond, ◌||◌, List, [], ◌∷◌, Result, Ok, Err, ltb, eqb, length, None, Option, Some}
 use Rattle.policy.specs.declared.entry.Entry.{Entry}
 use Rattle.policy.specs.declared.refusal.Refusal.{Refusal}
 use Rattle.policy.specs.declared.refusal.Refusal.TheVariants.{Missized, Version, Count, Crossed}
 use Rattle.policy.specs.Entry.{crossed}
 use Rattle.policy.specs.Refusals.{Answer, refusal, accepted, refuse, first_of}
-use Rattle.wire.specs.declared.check.Checked.{Checked}
-use Rattle.wire.specs.declared.check.Checked.TheVariants.{Good, Refused}
 use Rattle.wire.specs.Format.{is_version, head_size, record_size, length_in, version_in, count_in, list_in}
 
 -- 1, missized: fewer than 5 bytes, or not exactly L + 2
@@ -30,8 +27,8 @@ bad_count s limit =
 
 -- the number of the first entry with a property; entries are numbered from i
 abbrev pub first_from : (Entry → Bool) → ℕ → List Entry → Option ℕ
-first_from P i [] = none
-first_from P i (e ∷ p) = cond (P e) (some i) (first_from P (i + 1) p)
+first_from P i [] = None
+first_from P i (e ∷ p) = cond (P e) (Some i) (first_from P (i + 1) p)
 
 -- 4, crossed: the number of the first crossed entry
 abbrev pub first_crossed : List Entry → Option ℕ
@@ -39,8 +36,8 @@ first_crossed p = first_from crossed 0 p
 
 -- a check refuses where there is an entry to name
 abbrev pub refuse_entry : (ℕ → Refusal) → Option ℕ → Option Answer
-refuse_entry r (some i) = some (refusal (r i))
-refuse_entry r none = none
+refuse_entry r (Some i) = Some (refusal (r i))
+refuse_entry r None = None
 
 -- checks 1 to 4 of a file whose list may have up to `limit` entries, in their order
 abbrev pub file_checks : List ℕ → ℕ → List (Option Answer)
@@ -56,6 +53,6 @@ abbrev pub checks_of : List ℕ → ℕ → Answer
 checks_of s limit = first_of (file_checks s limit) (accepted (count_in s ∷ []))
 
 -- the answer of a check in 01's terms
-abbrev pub checked : Checked → Answer
-checked (Good n) = accepted (n ∷ [])
-checked (Refused r) = refusal r
+abbrev pub checked : Result ℕ Refusal → Answer
+checked (Ok n) = accepted (n ∷ [])
+checked (Err r) = refusal r

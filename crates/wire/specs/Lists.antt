@@ -1,9 +1,9 @@
 -- Lists of unpacked entries, and reading a file into one (01, "The file").
-use Rattle.std.specs.Prelude.{ℕ, ◌-◌, List, [], ◌++◌, length, take, replicate}
+use Rattle.std.specs.Prelude.{ℕ, ◌-◌, List, [], ◌++◌, Result, Ok, Err, length, take, replicate}
 use Rattle.policy.specs.declared.entry.Entry.{Entry}
+use Rattle.policy.specs.declared.refusal.Refusal.{Refusal}
 use Rattle.policy.specs.Refusals.{Answer}
 use Rattle.wire.specs.declared.list.Entries.{Entries}
-use Rattle.wire.specs.declared.read.Reading.{Reading}
 use Rattle.wire.specs.Format.{merged_version, list_limit, version_in, list_in}
 use Rattle.wire.specs.Answers.{ifAccepted}
 use Rattle.wire.specs.Checks.{checks_of, checked}
@@ -43,5 +43,6 @@ abbrev pub reading_of : List ℕ → Answer × Entries
 reading_of s = (checks_of s list_limit, ifAccepted (checks_of s list_limit) (listed (version_in s) (list_in s)) no_entries)
 
 -- a reading in 01's terms
-abbrev pub reading : Reading → Answer × Entries
-reading r = (checked r.answer, r.list)
+abbrev pub reading : Result Entries Refusal → Answer × Entries
+reading (Ok l) = (checked (Ok l.count), l)
+reading (Err r) = (checked (Err r), no_entries)

@@ -1,13 +1,11 @@
 -- Writing a list as a file into a lent buffer (01, "The file").
-use Rattle.std.specs.Prelude.{ℕ, ◌≡◌, Bool, not, ◌&&◌, ◌||◌, List, [], ◌∷◌, ◌++◌, ltb, eqb, length, take, drop}
-use Rattle.std.proofs.Math.Option.{Option}
-use Rattle.policy.specs.declared.refusal.Refusal.TheVariants.{Version, Count, Crossed, Narrow}
+use Rattle.std.specs.Prelude.{ℕ, ◌≡◌, Bool, not, ◌&&◌, ◌||◌, List, [], ◌∷◌, ◌++◌, Result, Ok, Err, ltb, eqb, length, take, drop, Option}
 use Rattle.policy.specs.declared.entry.Entry.{Entry}
+use Rattle.policy.specs.declared.refusal.Refusal.{Refusal}
+use Rattle.policy.specs.declared.refusal.Refusal.TheVariants.{Version, Count, Crossed, Narrow}
 use Rattle.policy.specs.Entry.{crossed}
 use Rattle.policy.specs.Refusals.{Answer, refusal, accepted, refuse, first_of}
 use Rattle.wire.specs.declared.list.Entries.{Entries}
-use Rattle.wire.specs.declared.write.Written.{Written}
-use Rattle.wire.specs.declared.write.Written.TheVariants.{Done, Refused}
 use Rattle.wire.specs.Format.{is_version, list_limit, file_size, file_of}
 use Rattle.wire.specs.Answers.{ifAccepted}
 use Rattle.wire.specs.Checks.{outside, first_from, refuse_entry}
@@ -50,11 +48,11 @@ abbrev pub writing_of : Entries → List ℕ → Answer × List ℕ
 writing_of l buffer = (write_answer l buffer, ifAccepted (write_answer l buffer) (placed (file_of l.version (held l)) buffer) buffer)
 
 -- a list that was written, and its bytes read again: the same list, of its version
-abbrev pub ReadAgain : Entries → Written → List ℕ → Type 0
-ReadAgain l (Done n) buffer = reading_of (take n buffer) ≡ (accepted (l.count ∷ []), listed l.version (held l))
-ReadAgain l (Refused r) buffer = Unit {0}
+abbrev pub ReadAgain : Entries → Result ℕ Refusal → List ℕ → Type 0
+ReadAgain l (Ok n) buffer = reading_of (take n buffer) ≡ (accepted (l.count ∷ []), listed l.version (held l))
+ReadAgain l (Err r) buffer = Unit {0}
 
 -- a writing in 01's terms
-abbrev pub writing : Written → List ℕ → Answer × List ℕ
-writing (Done n) buffer = (accepted (n ∷ []), buffer)
-writing (Refused r) buffer = (refusal r, buffer)
+abbrev pub writing : Result ℕ Refusal → List ℕ → Answer × List ℕ
+writing (Ok n) buffer = (accepted (n ∷ []), buffer)
+writing (Err r) buffer = (refusal r, buffer)

@@ -27,10 +27,7 @@ pub const FILE_SIZE: usize = HEAD_SIZE + RECORD_2 * LIST_LIMIT;
 pub fn is_version(v: u8) -> bool
     ensures { result ≡ is_version v }
 {
-    if v == 1 {
-        return true;
-    }
-    v == 2
+    v == 1 || v == 2
 }
 
 // The bytes of a record in a file of a version.

@@ -2,7 +2,6 @@
 #![tactic(auto)]
 
 pub mod check;
-mod crossed;
 pub mod format;
 pub mod header;
 pub mod list;

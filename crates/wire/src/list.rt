@@ -5,7 +5,7 @@ ghost use Rattle.wire.specs.Lists.{no_entries};
 use crate::format::{LIST_LIMIT, MERGED_VERSION};
 use policy::entry::Entry;
 
-// A list of up to 256 entries, in the first places, and the version of its file.
+// A list of up to 256 entries, in the first places, and the version of its file. It is an array, since this library has no heap.
 #[derive(Clone, Copy)]
 pub struct Entries {
     pub version: u8,

@@ -1,39 +1,98 @@
-// Numbers of 1, 2 and 4 bytes in a slice, the highest byte first.
-ghost use Rattle.std.specs.Prelude.{◌≡◌, ◌+◌, ◌*◌, ◌≤◌, length, get_or};
-ghost use Rattle.wire.specs.Format.{number2, number4};
+// Numbers of 1, 2 and 4 bytes in a slice, the highest byte first: read, and put.
+ghost use Rattle.std.specs.Prelude.{◌≡◌, ℕ, ◌+◌, ◌≤◌, List, [], ◌∷◌, length, get_or};
+ghost use Rattle.std.proofs.Math.Seq.{paste};
+ghost use Rattle.wire.specs.Format.{number2, number4, bytes2, bytes4};
 
-fn join2(a: u8, b: u8) -> u16
-    ensures { result ≡ a * 256 + b }
-{
-    a as u16 * 256 + b as u16
+use crate::put::paste;
+
+// A number of a fixed count of bytes.
+pub trait Number: Copy {
+    // How many bytes it has, the number at a place, a value as a number, and its bytes.
+    ghost size: { ℕ };
+
+    ghost number_at: { List ℕ → ℕ → ℕ };
+
+    ghost value: { Self → ℕ };
+
+    ghost bytes: { Self → List ℕ };
+
+    // The number at a place.
+    fn read(s: &[u8], at: usize) -> Self
+        requires { at + size ≤ length s.now }
+        ensures { value result ≡ number_at s.now at };
+
+    // Puts it at a place.
+    fn put(self, s: &mut [u8], at: usize)
+        requires { at + size ≤ length s.old }
+        ensures { s.new ≡ paste s.old at (bytes self) size };
+
+    // The same number in 4 bytes.
+    fn wide(self) -> u32
+        ensures { result ≡ value self };
 }
 
-fn join4(a: u8, b: u8, c: u8, d: u8) -> u32
-    ensures { result ≡ ((a * 256 + b) * 256 + c) * 256 + d }
-{
-    ((a as u32 * 256 + b as u32) * 256 + c as u32) * 256 + d as u32
+impl Number for u8 {
+    ghost size = { 1 };
+
+    ghost number_at = { λ s at. get_or s at 0 };
+
+    ghost value = { λ x. x };
+
+    ghost bytes = { λ x. x ∷ [] };
+
+    fn read(s: &[u8], at: usize) -> u8 {
+        s[at]
+    }
+
+    fn put(self, s: &mut [u8], at: usize) {
+        paste(s, at, &[self]);
+    }
+
+    fn wide(self) -> u32 {
+        self as u32
+    }
 }
 
-// The byte at a place.
-pub fn read1(s: &[u8], at: usize) -> u32
-    requires { at + 1 ≤ length s.now }
-    ensures { result ≡ get_or s.now at 0 }
-{
-    s[at] as u32
+impl Number for u16 {
+    ghost size = { 2 };
+
+    ghost number_at = { number2 };
+
+    ghost value = { λ x. x };
+
+    ghost bytes = { bytes2 };
+
+    fn read(s: &[u8], at: usize) -> u16 {
+        u16::from_be_bytes([s[at], s[at + 1]])
+    }
+
+    fn put(self, s: &mut [u8], at: usize) {
+        paste(s, at, &self.to_be_bytes());
+    }
+
+    fn wide(self) -> u32 {
+        self as u32
+    }
 }
 
-// The number of 2 bytes at a place.
-pub fn read2(s: &[u8], at: usize) -> u16
-    requires { at + 2 ≤ length s.now }
-    ensures { result ≡ number2 s.now at }
-{
-    join2(s[at], s[at + 1])
-}
+impl Number for u32 {
+    ghost size = { 4 };
 
-// The number of 4 bytes at a place.
-pub fn read4(s: &[u8], at: usize) -> u32
-    requires { at + 4 ≤ length s.now }
-    ensures { result ≡ number4 s.now at }
-{
-    join4(s[at], s[at + 1], s[at + 2], s[at + 3])
+    ghost number_at = { number4 };
+
+    ghost value = { λ x. x };
+
+    ghost bytes = { bytes4 };
+
+    fn read(s: &[u8], at: usize) -> u32 {
+        u32::from_be_bytes([s[at], s[at + 1], s[at + 2], s[at + 3]])
+    }
+
+    fn put(self, s: &mut [u8], at: usize) {
+        paste(s, at, &self.to_be_bytes());
+    }
+
+    fn wide(self) -> u32 {
+        self
+    }
 }

@@ -1,22 +1,21 @@
-// Bytes put into a lent buffer.
+// Values, and an entry's bytes, put into a lent buffer.
 ghost use Rattle.std.specs.Prelude.{◌≡◌, ◌+◌, ◌*◌, ◌≤◌, length};
 ghost use Rattle.std.proofs.Math.Seq.{paste};
 ghost use Rattle.wire.specs.Format.{head_size, record_size, list_limit, head_of, record_of};
 ghost use Rattle.wire.specs.Writing.{placed};
 
-use crate::format::record_size;
-use crate::record::{ranges_of, set_bytes};
+use crate::format::{HEAD_SIZE, record_size};
+use crate::number::Number;
+use crate::record::ranges_of;
 use policy::entry::Entry;
 
-// Copies bytes to a place.
-pub fn put_bytes(buffer: &mut [u8], at: usize, bytes: &[u8])
-    requires { at + length bytes.now ≤ length buffer.old }
-    ensures { buffer.new ≡ paste buffer.old at bytes.now (length bytes.now) }
+// Copies values to a place, by a loop: copy_from_slice asks whether the two overlap, and decoding takes nearly twice the time with it.
+pub fn paste<T: Copy>(buffer: &mut [T], at: usize, values: &[T])
+    requires { at + length values.now ≤ length buffer.old }
+    ensures { buffer.new ≡ paste buffer.old at values.now (length values.now) }
 {
-    let mut i = 0;
-    while i < bytes.len() {
-        buffer[at + i] = bytes[i];
-        i += 1;
+    for (i, x) in values.iter().enumerate() {
+        buffer[at + i] = *x;
     }
 }
 
@@ -25,30 +24,30 @@ pub(crate) fn put_entry(buffer: &mut [u8], at: usize, e: Entry, version: u8)
     requires { at + record_size version ≤ length buffer.old }
     ensures { buffer.new ≡ paste buffer.old at (record_of version e) (record_size version) }
 {
-    let ranges = ranges_of(e);
-    put_bytes(buffer, at, &ranges);
-    let set = set_bytes(e.actions);
+    paste(buffer, at, &ranges_of(e));
+    let set = e.actions.to_be_bytes();
     if version == 1 {
-        put_bytes(buffer, at + 26, &set);
+        paste(buffer, at + 26, &set);
     } else {
-        let rest = [e.direction_low, e.direction_high, set[0], set[1]];
-        put_bytes(buffer, at + 26, &rest);
+        paste(
+            buffer,
+            at + 26,
+            &[e.direction_low, e.direction_high, set[0], set[1]],
+        );
     }
 }
 
 // The bytes before the records of a file of n entries.
-fn head_of(version: u8, n: usize) -> [u8; 5]
+fn head_of(version: u8, n: usize) -> [u8; HEAD_SIZE]
     requires { n ≤ list_limit }
     ensures { result ≡ head_of version n }
 {
     let length = 3 + record_size(version) * n;
-    [
-        (length / 256 % 256) as u8,
-        (length % 256) as u8,
-        version,
-        (n / 256 % 256) as u8,
-        (n % 256) as u8,
-    ]
+    let mut bytes = [0; HEAD_SIZE];
+    (length as u16).put(&mut bytes, 0);
+    version.put(&mut bytes, 2);
+    (n as u16).put(&mut bytes, 3);
+    bytes
 }
 
 // Puts the bytes before the records at the start.
@@ -56,6 +55,5 @@ pub(crate) fn put_head(buffer: &mut [u8], version: u8, n: usize)
     requires { (n ≤ list_limit) × (head_size ≤ length buffer.old) }
     ensures { buffer.new ≡ placed (head_of version n) buffer.old }
 {
-    let bytes = head_of(version, n);
-    put_bytes(buffer, 0, &bytes);
+    paste(buffer, 0, &head_of(version, n));
 }

@@ -3,17 +3,11 @@ ghost use Rattle.std.specs.Prelude.{◌≡◌, ◌≤◌, length};
 ghost use Rattle.wire.specs.Format.{list_limit, version_in, place_in, entries_from};
 ghost use Rattle.wire.specs.Lists.{listed, reading, reading_of};
 
-use crate::check::{Checked, check_file};
+use crate::check::check_file;
 use crate::format::LIST_LIMIT;
-use crate::list::{EMPTY, Entries, no_entries};
+use crate::list::{EMPTY, Entries};
 use crate::record::entry_in;
-
-// What checks 1 to 4 answer, and the list; no entries where the file is refused.
-#[derive(Clone, Copy)]
-pub struct Reading {
-    pub list: Entries,
-    pub answer: Checked,
-}
+use policy::refusal::Refusal;
 
 // The first n entries of a file, as a list.
 fn read_entries(file: &[u8], n: usize) -> Entries
@@ -21,10 +15,8 @@ fn read_entries(file: &[u8], n: usize) -> Entries
     ensures { result ≡ listed (version_in file.now) (entries_from file.now 0 n) }
 {
     let mut entries = [EMPTY; LIST_LIMIT];
-    let mut i: usize = 0;
-    while i < n {
+    for i in 0..n {
         entries[i] = entry_in(file, i);
-        i += 1;
     }
     Entries {
         version: file[2],
@@ -33,18 +25,10 @@ fn read_entries(file: &[u8], n: usize) -> Entries
     }
 }
 
-// Reads a file of up to 256 entries.
-pub fn read_list(file: &[u8]) -> Reading
+// Reads a file of up to 256 entries that passes checks 1 to 4.
+pub fn read_list(file: &[u8]) -> Result<Entries, Refusal>
     ensures { reading result ≡ reading_of file.now }
 {
-    match check_file(file, LIST_LIMIT) {
-        Checked::Good(n) => Reading {
-            list: read_entries(file, n),
-            answer: Checked::Good(n),
-        },
-        Checked::Refused(r) => Reading {
-            list: no_entries(),
-            answer: Checked::Refused(r),
-        },
-    }
+    let n = check_file(file, LIST_LIMIT)?;
+    Ok(read_entries(file, n))
 }

@@ -1,11 +1,11 @@
 // Records: an entry's bytes.
 ghost use Rattle.std.specs.Prelude.{◌≡◌, ◌+◌, ◌≤◌, length};
 ghost use Rattle.policy.specs.Box.{range};
-ghost use Rattle.wire.specs.Format.{record_size, version_in, place_in, records_in, bytes2, entry_with, entry_at, ranges_of};
+ghost use Rattle.wire.specs.Format.{record_size, place_in, records_in, entry_with, entry_at, ranges_of};
 ghost use Rattle.wire.specs.steps.Numbered.{entry_in};
 
 use crate::format::{HEAD_SIZE, record_size};
-use crate::number::{read2, read4};
+use crate::number::Number;
 use policy::entry::Entry;
 
 // The ranges of the record at a place, with that of a direction and with an action set.
@@ -14,14 +14,14 @@ fn read_with(s: &[u8], at: usize, low: u8, high: u8, actions: u16) -> Entry
     ensures { result ≡ entry_with s.now at (range low high) actions }
 {
     Entry {
-        local_low: read4(s, at),
-        local_high: read4(s, at + 4),
-        remote_low: read4(s, at + 8),
-        remote_high: read4(s, at + 12),
-        local_port_low: read2(s, at + 16),
-        local_port_high: read2(s, at + 18),
-        remote_port_low: read2(s, at + 20),
-        remote_port_high: read2(s, at + 22),
+        local_low: u32::read(s, at),
+        local_high: u32::read(s, at + 4),
+        remote_low: u32::read(s, at + 8),
+        remote_high: u32::read(s, at + 12),
+        local_port_low: u16::read(s, at + 16),
+        local_port_high: u16::read(s, at + 18),
+        remote_port_low: u16::read(s, at + 20),
+        remote_port_high: u16::read(s, at + 22),
         protocol_low: s[at + 24],
         protocol_high: s[at + 25],
         direction_low: low,
@@ -36,17 +36,9 @@ pub fn read_entry(s: &[u8], at: usize, version: u8) -> Entry
     ensures { result ≡ entry_at version s.now at }
 {
     if version == 1 {
-        return read_with(s, at, 0, 1, read2(s, at + 26));
+        return read_with(s, at, 0, 1, u16::read(s, at + 26));
     }
-    read_with(s, at, s[at + 26], s[at + 27], read2(s, at + 28))
-}
-
-// Where record number i of a file of a version starts.
-pub(crate) fn place_as(file: &[u8], version: u8, i: usize) -> usize
-    requires { (place_in file.now i ≤ length file.now) × (version ≡ version_in file.now) }
-    ensures { result ≡ place_in file.now i }
-{
-    HEAD_SIZE + record_size(version) * i
+    read_with(s, at, s[at + 26], s[at + 27], u16::read(s, at + 28))
 }
 
 // Where record number i of a file starts.
@@ -54,7 +46,7 @@ pub fn record_place(file: &[u8], i: usize) -> usize
     requires { place_in file.now i ≤ length file.now }
     ensures { result ≡ place_in file.now i }
 {
-    place_as(file, file[2], i)
+    HEAD_SIZE + record_size(file[2]) * i
 }
 
 // Entry number i of a file.
@@ -71,7 +63,7 @@ pub fn set_in(file: &[u8], i: usize) -> u16
     ensures { result ≡ (entry_in file.now i).actions }
 {
     let place = record_place(file, i);
-    read2(file, place + (record_size(file[2]) - 2))
+    u16::read(file, place + (record_size(file[2]) - 2))
 }
 
 // How many whole records there are behind the head of a file.
@@ -88,39 +80,16 @@ pub fn records_in(file: &[u8]) -> usize
 pub(crate) fn ranges_of(e: Entry) -> [u8; 26]
     ensures { result ≡ ranges_of e }
 {
-    [
-        (e.local_low / 16777216 % 256) as u8,
-        (e.local_low / 65536 % 256) as u8,
-        (e.local_low / 256 % 256) as u8,
-        (e.local_low % 256) as u8,
-        (e.local_high / 16777216 % 256) as u8,
-        (e.local_high / 65536 % 256) as u8,
-        (e.local_high / 256 % 256) as u8,
-        (e.local_high % 256) as u8,
-        (e.remote_low / 16777216 % 256) as u8,
-        (e.remote_low / 65536 % 256) as u8,
-        (e.remote_low / 256 % 256) as u8,
-        (e.remote_low % 256) as u8,
-        (e.remote_high / 16777216 % 256) as u8,
-        (e.remote_high / 65536 % 256) as u8,
-        (e.remote_high / 256 % 256) as u8,
-        (e.remote_high % 256) as u8,
-        (e.local_port_low / 256 % 256) as u8,
-        (e.local_port_low % 256) as u8,
-        (e.local_port_high / 256 % 256) as u8,
-        (e.local_port_high % 256) as u8,
-        (e.remote_port_low / 256 % 256) as u8,
-        (e.remote_port_low % 256) as u8,
-        (e.remote_port_high / 256 % 256) as u8,
-        (e.remote_port_high % 256) as u8,
-        e.protocol_low,
-        e.protocol_high,
-    ]
-}
-
-// The bytes of an action set.
-pub(crate) fn set_bytes(actions: u16) -> [u8; 2]
-    ensures { result ≡ bytes2 actions }
-{
-    [(actions / 256 % 256) as u8, (actions % 256) as u8]
+    let mut bytes = [0; 26];
+    e.local_low.put(&mut bytes, 0);
+    e.local_high.put(&mut bytes, 4);
+    e.remote_low.put(&mut bytes, 8);
+    e.remote_high.put(&mut bytes, 12);
+    e.local_port_low.put(&mut bytes, 16);
+    e.local_port_high.put(&mut bytes, 18);
+    e.remote_port_low.put(&mut bytes, 20);
+    e.remote_port_high.put(&mut bytes, 22);
+    e.protocol_low.put(&mut bytes, 24);
+    e.protocol_high.put(&mut bytes, 25);
+    bytes
 }

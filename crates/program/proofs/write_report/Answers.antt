@@ -1,19 +1,27 @@
--- What is written next stands behind the front.
-use Rattle.std.proofs.Common.{◌≡◌, ℕ, ◌+◌, ◌-◌, List, ◌++◌, length, take, drop, rules, arith, sym, subst, ap, ◌∙◌, length-drop}
+-- What is written next stands behind what is written.
+use Rattle.std.proofs.Common.{◌≡◌, ℕ, ◌+◌, ◌-◌, ◌≤◌, List, ◌++◌, length, take, drop, refl, rules, arith, sym, subst, ap, ◌∙◌, length-drop}
 use Rattle.std.proofs.KnownBytes.{Appends-trans}
 use Rattle.std.proofs.Math.Seq.{take-add}
 use Rattle.std.proofs.lemmas.Grind.{common_steps}
 use Rattle.std.specs.Io.KnownBytes.{Appends}
 use Rattle.program.proofs.write_report.Goals as goal
 
-front_more : (a n : ℕ) (xs : List ℕ) → take (a + n) xs ≡ take a xs ++ take n (take (length xs - a) (drop a xs))
-front_more a n xs = take-add a n xs ∙ ap (λ l. take a xs ++ take n l) (sym (whole a xs))
+front_more : (text left next : List ℕ) (n : ℕ) → length left ≤ length text → left ≡ drop (length text - length left) text → n ≤ length left → next ≡ take (length left - n) (drop n left)
+    → take (length text - length left) text ++ take n left ≡ take (length text - length next) text
+front_more text left next n within rest some is =
+    ap (λ l. take (length text - length left) text ++ take n l) rest
+    ∙ sym (take-add (length text - length left) n text)
+    ∙ ap (λ k. take k text) place
   where
-    whole : (a : ℕ) (xs : List ℕ) → take (length xs - a) (drop a xs) ≡ drop a xs
-    whole a xs = grind (arith, common_steps, length-drop {A = ℕ})
+    place : length text - length left + n ≡ length text - length next
+    place = grind (arith, common_steps, length-drop {A = ℕ})
 
-pub loop-at-preserved : goal.loop-at-preserved
-loop-at-preserved g c = record {
-  within = search rules;
-  bytes = subst (Appends _ _) (sym (front_more _ _ _)) (Appends-trans _ _ _ _ _ c.loop-at.invariant.bytes c.in_ok-n.ensures.bytes);
-}
+pub loop-left-preserved : goal.loop-left-preserved
+loop-left-preserved g c =
+    let i = c.loop-left.invariant in
+    let some : c.in_ok-n.n ≤ length c.loop-left.left.now = search rules in
+    record {
+      within = search rules;
+      rest = grind (arith, common_steps, length-drop {A = ℕ});
+      bytes = subst (Appends _ _) (front_more c.args.text.now c.loop-left.left.now _ c.in_ok-n.n i.within i.rest some refl) (Appends-trans _ _ _ _ _ i.bytes c.in_ok-n.ensures.bytes);
+    }

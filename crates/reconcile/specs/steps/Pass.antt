@@ -1,12 +1,9 @@
 -- Rules 1 and 2 in one pass over the pairs, as the code goes: a pair is kept if it catches a header that the kept ones leave uncaught.
-use Rattle.std.specs.Prelude.{ℕ, ◌/◌, ◌≤◌, ◌<◌, ◌≡◌, false, cond, List, [], ◌∷◌, ◌++◌, length, get_or}
+use Rattle.std.specs.Prelude.{ℕ, ◌/◌, ◌≤◌, ◌≡◌, cond, List, [], ◌∷◌, ◌++◌, length}
 use Rattle.policy.specs.declared.entry.Entry.{Entry}
-use Rattle.policy.specs.Box.{proper, meet}
-use Rattle.policy.specs.Header.{arity, Box, Headers}
-use Rattle.policy.specs.Entry.{selector}
+use Rattle.policy.specs.Header.{Headers}
 use Rattle.policy.specs.steps.Rows.{row_size, rows_in}
 use Rattle.wire.specs.Format.{filed_limit, place_in, entries_from}
-use Rattle.wire.specs.Lists.{empty_entry}
 use Rattle.reconcile.specs.Rules.{shadowed, Working, list, crowded, limited}
 
 -- an entry more; the 257th that is kept is one too many
@@ -17,12 +14,6 @@ offered hs crowded e = crowded
 abbrev pub offered_all : Headers → Working → List Entry → Working
 offered_all hs w [] = w
 offered_all hs w (e ∷ p) = offered_all hs (offered hs w e) p
-
--- the entries of p from number j up to k have nothing in common with b
-pub record Apart (b : Box) (p : List Entry) (j k : ℕ) : Type 0 where
-  pub onward : j ≤ k
-  pub most : k ≤ length p
-  pub apart : (i : ℕ) → j ≤ i → i < k → proper arity (meet arity b (selector (get_or p i empty_entry))) ≡ false
 
 -- t are the rows of the first entries of the file s, no more than a filed list has
 pub record RowsOf (s t : List ℕ) : Type 0 where

@@ -1,8 +1,6 @@
 -- The low corner of a box: which row holds it, and how many rows meet the box.
-use Rattle.std.specs.Prelude.{◌≡◌, ℕ, zero, suc, ◌+◌, ◌-◌, ◌*◌, ◌/◌, ◌<◌, ◌≤◌, Bool, true, false, cond, ◌&&◌, ◌⊎◌, List, [], ◌∷◌, length, nat_le, slice_index_or}
+use Rattle.std.specs.Prelude.{◌≡◌, ℕ, zero, suc, ◌+◌, ◌-◌, ◌*◌, ◌/◌, ◌<◌, Bool, true, false, cond, ◌&&◌, ◌⊎◌, List, [], ◌∷◌, length, nat_le, slice_index_or, Option, Some, None}
 use Rattle.policy.specs.declared.header.Header.{Header}
-use Rattle.policy.specs.declared.header.Found.{Found}
-use Rattle.policy.specs.declared.header.Found.TheVariants.{At, Nothing}
 use Rattle.policy.specs.declared.entry.Entry.{Entry}
 use Rattle.policy.specs.Row.{Row}
 use Rattle.policy.specs.Box.{Range, inside, proper, meet}
@@ -19,14 +17,14 @@ use Rattle.region.specs.declared.pick.Picked.{Picked}
 use Rattle.region.specs.declared.pick.Picked.TheVariants.{Held, Free, Covered}
 
 -- the header comes before the finding
-abbrev pub improves : Header → Found → Bool
-improves h Nothing = true
-improves h (At g) = before h g
+abbrev pub improves : Header → Option Header → Bool
+improves h None = true
+improves h (Some g) = before h g
 
 -- a header was found that comes before best
-abbrev pub sooner : Found → Found → Bool
-sooner (At h) best = improves h best
-sooner Nothing best = false
+abbrev pub sooner : Option Header → Option Header → Bool
+sooner (Some h) best = improves h best
+sooner None best = false
 
 -- the box s holds the low corner of b
 abbrev pub holds_corner : Box → Box → Bool
@@ -52,9 +50,9 @@ Picks es b Free = missed es (header (lows arity b)) ≡ true
 Picks es b Covered = Covers es b
 
 -- the same, where a header is looked for that comes before best: the low corner is the least, or there is none
-abbrev pub PicksBefore : List Entry → Box → Found → Picked → Type 0
+abbrev pub PicksBefore : List Entry → Box → Option Header → Picked → Type 0
 PicksBefore es b best (Held i) = (i < length es) × (holds_corner (selector_in es i) b ≡ true)
-PicksBefore es b best Free = At (header (lows arity b)) ≡ lesser (least_in headers b (missed es)) best
+PicksBefore es b best Free = Some (header (lows arity b)) ≡ lesser (least_in headers b (missed es)) best
 PicksBefore es b best Covered = best ≡ lesser (least_in headers b (missed es)) best
 
 -- the number picked, and the pick behind n entries more
@@ -72,12 +70,13 @@ shifted n Covered = Covered
 abbrev pub Chooses : List ℕ → Box → ℕ → Bool → Type 0
 Chooses s b i whole = (i < length s / row_size) × ((holds_corner (box_of s (row_size * i)) b ≡ true) × (whole ≡ true → Covers (rows_in s) b))
 
--- of the first n rows: the last of the first i holds the numbers x, if i is not 0, and none behind it does
-abbrev pub HoldsLast : List ℕ → ℕ → Row ℕ arity → ℕ → Type 0
-HoldsLast s n x i =
-    (i ≤ n)
-    × ((0 < i → inside arity (box_of s (row_size * (i - 1))) x ≡ true)
-    × (missed (rows_from s (row_size * i) (n - i)) (header x) ≡ true))
+-- of the first n rows: number i holds the numbers x, and none behind it does; or none does
+abbrev pub HoldsLast : List ℕ → ℕ → Row ℕ arity → Option ℕ → Type 0
+HoldsLast s n x (Some i) =
+    (i < n)
+    × ((inside arity (box_of s (row_size * i)) x ≡ true)
+    × (missed (rows_from s (row_size * (i + 1)) (n - (i + 1))) (header x) ≡ true))
+HoldsLast s n x None = missed (rows_from s 0 n) (header x) ≡ true
 
 -- number i is taken, or the old choice stays
 abbrev pub Better : ℕ → Choice → Choice → Type 0

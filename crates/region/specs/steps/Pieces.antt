@@ -1,11 +1,10 @@
 -- A box is cut where another ends in one field: the part up to there, and the part above.
-use Rattle.std.specs.Prelude.{◌≡◌, ℕ, zero, suc, ◌<◌, ◌≤◌, min, true, ◌⊎◌, List, length, ◌≢◌}
+use Rattle.std.specs.Prelude.{◌≡◌, ℕ, zero, suc, ◌<◌, min, true, List, length, Option, Some, None}
 use Rattle.policy.specs.Row.{Row}
 use Rattle.policy.specs.Box.{Range, range}
 use Rattle.policy.specs.Header.{arity, Box}
 use Rattle.policy.specs.Sides.{box_of}
 use Rattle.policy.specs.steps.Rows.{sides}
-use Rattle.region.specs.declared.cut.Candidate.{Candidate}
 use Rattle.region.specs.steps.Corner.{reaches}
 
 -- the sides are those of the box
@@ -28,10 +27,7 @@ Short zero f b s = ⊥
 Short (suc k) zero b s = s.0.high < b.0.high
 Short (suc k) (suc f) b s = Short k f b.1 s.1
 
--- the number of a field in which s ends before b; or arity, and there is none
-abbrev pub Next : Box → Box → ℕ → Type 0
-Next b s f = ((f < arity) × Short arity f b s) ⊎ ((f ≡ arity) × (reaches arity s b ≡ true))
-
--- field number f if its end comes before a high; else the other candidate, which is a field unless the end does not
-abbrev pub Offered : Candidate → ℕ → ℕ → ℕ → Candidate → Type 0
-Offered c f end high r = ((r.field ≡ f) × (end < high)) ⊎ ((r ≡ c) × ((c.field ≢ arity) ⊎ (high ≤ end)))
+-- the number of a field in which s ends before b; or there is none
+abbrev pub Next : Box → Box → Option ℕ → Type 0
+Next b s (Some f) = (f < arity) × Short arity f b s
+Next b s None = reaches arity s b ≡ true

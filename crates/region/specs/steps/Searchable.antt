@@ -1,6 +1,6 @@
 -- A box that is searched by the parts above a row that is cut off it.
-use Rattle.std.specs.Prelude.{◌≡◌, ℕ, ◌-◌, ◌<◌, ◌≤◌, true, List, length}
-use Rattle.policy.specs.declared.header.Found.{Found}
+use Rattle.policy.specs.declared.header.Header.{Header}
+use Rattle.std.specs.Prelude.{◌≡◌, ℕ, ◌-◌, ◌<◌, ◌≤◌, true, List, length, Option}
 use Rattle.policy.specs.declared.entry.Entry.{Entry}
 use Rattle.policy.specs.Box.{proper}
 use Rattle.policy.specs.Header.{arity, Box, Headers}
@@ -25,11 +25,11 @@ pub record Ready (es : List Entry) (s b : Box) (left : ℕ) : Type 0 where
   pub box : Searchable es b left
 
 -- what is missed of x, below best, is what is missed of the rest, below the finding
-abbrev pub Same : Headers → List Entry → Box → Found → Box → Found → Type 0
+abbrev pub Same : Headers → List Entry → Box → Option Header → Box → Option Header → Type 0
 Same hs es x best rest found = lesser (least_in hs x (missed es)) best ≡ lesser (least_in hs rest (missed es)) found
 
 -- the rest of x after a search of its other parts: fewer entries meet it
-pub record Remainder (hs : Headers) (es : List Entry) (x : Box) (best : Found) (left : ℕ) (rest : Box) (found : Found) : Type 0 where
+pub record Remainder (hs : Headers) (es : List Entry) (x : Box) (best : Option Header) (left : ℕ) (rest : Box) (found : Option Header) : Type 0 where
   pub some : 1 ≤ left
   pub box : Searchable es rest (left - 1)
   pub same : Same hs es x best rest found

@@ -1,10 +1,7 @@
 -- What a list allows a header (Definition 4), judged by the action sets that are wanted; and what a search of it hands up.
-use Rattle.std.specs.Prelude.{◌≡◌, ℕ, Bool, true, not, List, [], ◌∷◌, ◌==◌}
+use Rattle.std.specs.Prelude.{◌≡◌, ℕ, Bool, true, not, List, [], ◌∷◌, ◌==◌, None, Option, Some}
 use Rattle.policy.specs.declared.header.Header.{Header}
-use Rattle.policy.specs.declared.header.Found.{Found}
-use Rattle.policy.specs.declared.header.Found.TheVariants.{At, Nothing}
 use Rattle.policy.specs.declared.entry.Entry.{Entry}
-use Rattle.policy.specs.declared.entry.Caught.{Caught}
 use Rattle.policy.specs.Actions.{subset}
 use Rattle.policy.specs.Policy.{catcher, Allowed, actions, uncaught}
 use Rattle.policy.specs.Refusals.{Answer, accepted}
@@ -32,15 +29,15 @@ OneSet s [] = Unit {0}
 OneSet s (e ∷ p) = (e.actions ≡ s) × OneSet s p
 
 -- what catches the header found in the list p, if it comes before best
-abbrev pub CaughtBefore : List Entry → Found → Found → Caught → Type 0
-CaughtBefore p best found by = (h : Header) → found ≡ At h → sooner found best ≡ true → by ≡ catcher p h
+abbrev pub CaughtBefore : List Entry → Option Header → Option Header → Option ℕ → Type 0
+CaughtBefore p best found by = (h : Header) → found ≡ Some h → sooner found best ≡ true → by ≡ catcher p h
 
 -- a search of the list p hands up the lesser of a least header and best, and what catches it if it is not best
-pub record Finds (p : List Entry) (least best : Found) (r : Finding) : Type 0 where
+pub record Finds (p : List Entry) (least best : Option Header) (r : Finding) : Type 0 where
   pub header : r.found ≡ lesser least best
   pub entry : CaughtBefore p best r.found r.by
 
 -- both in 01's terms
-abbrev pub finding_answer : Found → Caught → Answer
-finding_answer (At h) c = with_catcher h c
-finding_answer Nothing c = accepted []
+abbrev pub finding_answer : Option Header → Option ℕ → Answer
+finding_answer (Some h) c = with_catcher h c
+finding_answer None c = accepted []

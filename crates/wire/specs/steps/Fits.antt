@@ -1,13 +1,12 @@
 -- Entries whose numbers fit the bytes of their fields. Every entry in memory does, and one that does is read again from its record.
-use Rattle.std.specs.Prelude.{ℕ, ◌<◌, ◌≡◌, true, List, [], ◌∷◌}
+use Rattle.std.specs.Prelude.{ℕ, ◌<◌, ◌≡◌, true, List, [], ◌∷◌, Result, Ok, Err}
 use Rattle.policy.specs.declared.entry.Entry.{Entry}
+use Rattle.policy.specs.declared.refusal.Refusal.{Refusal}
 use Rattle.policy.specs.Box.{highs_fit}
 use Rattle.policy.specs.steps.Boxes.{lows, fits}
 use Rattle.policy.specs.Row.{Row}
 use Rattle.policy.specs.Header.{arity, sizes_of}
 use Rattle.policy.specs.Entry.{selector}
-use Rattle.wire.specs.declared.check.Checked.{Checked}
-use Rattle.wire.specs.declared.check.Checked.TheVariants.{Good, Refused}
 
 -- how many values the bytes of each field have: the direction has a byte, though a header's is one bit
 abbrev pub byte_sizes : Row ℕ arity
@@ -23,6 +22,6 @@ AllFit [] = Unit {0}
 AllFit (e ∷ p) = Fits e × AllFit p
 
 -- those of a list that passed a check do
-abbrev pub GoodFit : Checked → List Entry → Type 0
-GoodFit (Good n) p = AllFit p
-GoodFit (Refused r) p = Unit {0}
+abbrev pub GoodFit : Result ℕ Refusal → List Entry → Type 0
+GoodFit (Ok n) p = AllFit p
+GoodFit (Err r) p = Unit {0}

@@ -3,14 +3,12 @@
 use Rattle.bench.proofs.Naming.{result_conflict, result_other}
 use Rattle.bench.proofs.calls.result_of.Goals as goal
 
-pub returns-in-At : goal.returns-in-At
-returns-in-At c =
+pub returns-in-Some : goal.returns-in-Some
+returns-in-Some c =
     let g = c.args in
-    let a = c.answer_of in
-    result_conflict g.bench g.m a.result _ c.name_catchers.result c.conflict_in.ensures a.ensures _ c.in-At.is c.name_catchers.ensures
+    result_conflict g.bench g.m _ c.name_catchers.result c.conflict_in.ensures _ c.in-Some.is c.name_catchers.ensures
 
-pub returns-in-Nothing : goal.returns-in-Nothing
-returns-in-Nothing c =
+pub returns-in-None : goal.returns-in-None
+returns-in-None c =
     let g = c.args in
-    let a = c.answer_of-in-Nothing in
-    result_other g.bench g.m a.result _ c.none_named.result c.conflict_in.ensures a.ensures c.in-Nothing.is c.none_named.ensures.1
+    result_other g.bench g.m _ c.none_named.result c.conflict_in.ensures c.in-None.is c.none_named.ensures.1

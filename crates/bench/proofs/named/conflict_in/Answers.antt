@@ -24,11 +24,11 @@ another_number (Conflict h) k = absurd (k h refl)
 another_number (Narrow n) k = refl
 another_number Ranking k = refl
 
-pub returns-in-Done : goal.returns-in-Done
-returns-in-Done c = search done_no_conflict
+pub returns-in-Ok : goal.returns-in-Ok
+returns-in-Ok c = search done_no_conflict
 
 pub returns-in-Conflict : goal.returns-in-Conflict
 returns-in-Conflict c = search conflict_at
 
 pub returns-in_default : goal.returns-in_default
-returns-in_default c = no_conflict _ c.in-Refused.r c.in-Refused.is (another_number c.in-Refused.r c.in_default.not-Conflict)
+returns-in_default c = no_conflict _ c.in-Err.r c.in-Err.is (another_number c.in-Err.r c.in_default.not-Conflict)

@@ -11,4 +11,4 @@ use Rattle.bench.proofs.slots.add_slot.Goals as goal
 pub returns : goal.returns
 returns c =
     let k : length c.args.slot.bytes ≡ 965 = search rules in
-    c.add_list.ensures ∙ ap (added headers (stage_in c.args.s)) (slot_lends c.args.slot _ k c.file_end-end.ensures)
+    c.add_list.ensures ∙ ap (added headers (stage_in c.args.s.now)) (slot_lends c.args.slot _ k c.file_end-end.ensures)

@@ -4,4 +4,4 @@ use Rattle.bench.proofs.Slotting.{slot_made}
 use Rattle.bench.proofs.slots.slot_with.Goals as goal
 
 pub returns : goal.returns
-returns c = slot_made c.args.file.now c.put_bytes.new.buffer c.put_bytes.ensures
+returns c = slot_made c.args.file.now c.paste.new.buffer c.paste.ensures

@@ -6,11 +6,11 @@ use Rattle.lookup.proofs.file.lookup_record.Goals as goal
 pub record_of-requires : goal.record_of-requires
 record_of-requires c = search record_fits
 
-pub returns-in-Entry : goal.returns-in-Entry
-returns-in-Entry c = search (passed_on, record_part_lem)
+pub returns-in-Ok-Some : goal.returns-in-Ok-Some
+returns-in-Ok-Some c = search (passed_on, record_part_lem)
 
-pub returns-in-Uncaught : goal.returns-in-Uncaught
-returns-in-Uncaught c = search (nothing_lent, uncaught_part)
+pub returns-in-Ok-None : goal.returns-in-Ok-None
+returns-in-Ok-None c = search (nothing_lent, uncaught_part)
 
-pub returns-in-Refused : goal.returns-in-Refused
-returns-in-Refused c = search (nothing_lent, refused_part)
+pub returns-in-Err : goal.returns-in-Err
+returns-in-Err c = search (nothing_lent, refused_part)

@@ -20,17 +20,15 @@ pub returns-then-record_matches : goal.returns-then-record_matches
 returns-then-record_matches c =
     let a = c.args in
     let l = c.loop-i in
-    matched a.file.now a.n a.h l.i (search rules) l.invariant.1 _
+    matched a.file.now a.n a.h l.i (search rules) l.invariant _
     (entry_tested a.file.now l.i _ a.h _ c.record_place.ensures c.record_matches.ensures) c.if-record_matches.true
 
 pub loop-i-preserved : goal.loop-i-preserved
 loop-i-preserved c =
     let a = c.args in
-    let l = c.loop-i in (
-      omega arith,
-      unmatched a.file.now a.n a.h l.i (search rules) l.invariant.1 _
-          (entry_tested a.file.now l.i _ a.h _ c.record_place.ensures c.record_matches.ensures) c.if-record_matches.false,
-    )
+    let l = c.loop-i in
+    unmatched a.file.now a.n a.h l.i (search rules) l.invariant _
+    (entry_tested a.file.now l.i _ a.h _ c.record_place.ensures c.record_matches.ensures) c.if-record_matches.false
 
 pub returns : goal.returns
 returns c = search ended

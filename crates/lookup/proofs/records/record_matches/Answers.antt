@@ -7,68 +7,68 @@ use Rattle.wire.proofs.Sizes.{size_least, size_other}
 use Rattle.lookup.proofs.PackedMatch.{covers_both, covers_its_own}
 use Rattle.lookup.proofs.records.record_matches.Goals as goal
 
-pub within4-requires : goal.within4-requires
-within4-requires c = (omega (arith, size_least c.args.version), omega (arith, size_least c.args.version))
+pub is_within-requires : goal.is_within-requires
+is_within-requires c = (omega (arith, size_least c.args.version), omega (arith, size_least c.args.version))
 
-pub returns-then-not-within4 : goal.returns-then-not-within4
-returns-then-not-within4 c =
-    stops _ _ _ c.within4.ensures c.if-not-within4.true-raw
+pub returns-then-not-is_within : goal.returns-then-not-is_within
+returns-then-not-is_within c =
+    stops _ _ _ c.is_within.ensures c.if-not-is_within.true
 
-pub within4-requires-2 : goal.within4-requires-2
-within4-requires-2 c = (omega (arith, size_least c.args.version), omega (arith, size_least c.args.version))
+pub is_within-requires-2 : goal.is_within-requires-2
+is_within-requires-2 c = (omega (arith, size_least c.args.version), omega (arith, size_least c.args.version))
 
-pub returns-then-not-within4-2 : goal.returns-then-not-within4-2
-returns-then-not-within4-2 c =
-    goes_on _ _ _ _ c.within4.ensures c.if-not-within4.false-raw
-    (stops _ _ _ c.within4-2.ensures c.if-not-within4-2.true-raw)
+pub returns-then-not-is_within-2 : goal.returns-then-not-is_within-2
+returns-then-not-is_within-2 c =
+    goes_on _ _ _ _ c.is_within.ensures c.if-not-is_within.false
+    (stops _ _ _ c.is_within-2.ensures c.if-not-is_within-2.true)
 
-pub within2-requires : goal.within2-requires
-within2-requires c = (omega (arith, size_least c.args.version), omega (arith, size_least c.args.version))
+pub is_within-requires-3 : goal.is_within-requires-3
+is_within-requires-3 c = (omega (arith, size_least c.args.version), omega (arith, size_least c.args.version))
 
-pub returns-then-not-within2 : goal.returns-then-not-within2
-returns-then-not-within2 c =
-    goes_on _ _ _ _ c.within4.ensures c.if-not-within4.false-raw
-    (goes_on _ _ _ _ c.within4-2.ensures c.if-not-within4-2.false-raw
-    (stops _ _ _ c.within2.ensures c.if-not-within2.true-raw))
+pub returns-then-not-is_within-3 : goal.returns-then-not-is_within-3
+returns-then-not-is_within-3 c =
+    goes_on _ _ _ _ c.is_within.ensures c.if-not-is_within.false
+    (goes_on _ _ _ _ c.is_within-2.ensures c.if-not-is_within-2.false
+    (stops _ _ _ c.is_within-3.ensures c.if-not-is_within-3.true))
 
-pub within2-requires-2 : goal.within2-requires-2
-within2-requires-2 c = (omega (arith, size_least c.args.version), omega (arith, size_least c.args.version))
+pub is_within-requires-4 : goal.is_within-requires-4
+is_within-requires-4 c = (omega (arith, size_least c.args.version), omega (arith, size_least c.args.version))
 
-pub returns-then-not-within2-2 : goal.returns-then-not-within2-2
-returns-then-not-within2-2 c =
-    goes_on _ _ _ _ c.within4.ensures c.if-not-within4.false-raw
-    (goes_on _ _ _ _ c.within4-2.ensures c.if-not-within4-2.false-raw
-    (goes_on _ _ _ _ c.within2.ensures c.if-not-within2.false-raw
-    (stops _ _ _ c.within2-2.ensures c.if-not-within2-2.true-raw)))
+pub returns-then-not-is_within-4 : goal.returns-then-not-is_within-4
+returns-then-not-is_within-4 c =
+    goes_on _ _ _ _ c.is_within.ensures c.if-not-is_within.false
+    (goes_on _ _ _ _ c.is_within-2.ensures c.if-not-is_within-2.false
+    (goes_on _ _ _ _ c.is_within-3.ensures c.if-not-is_within-3.false
+    (stops _ _ _ c.is_within-4.ensures c.if-not-is_within-4.true)))
 
-pub within1-requires : goal.within1-requires
-within1-requires c = (omega (arith, size_least c.args.version), omega (arith, size_least c.args.version))
+pub is_within-requires-5 : goal.is_within-requires-5
+is_within-requires-5 c = (omega (arith, size_least c.args.version), omega (arith, size_least c.args.version))
 
-pub returns-then-not-within1 : goal.returns-then-not-within1
-returns-then-not-within1 c =
-    goes_on _ _ _ _ c.within4.ensures c.if-not-within4.false-raw
-    (goes_on _ _ _ _ c.within4-2.ensures c.if-not-within4-2.false-raw
-    (goes_on _ _ _ _ c.within2.ensures c.if-not-within2.false-raw
-    (goes_on _ _ _ _ c.within2-2.ensures c.if-not-within2-2.false-raw
-    (stops _ _ _ c.within1.ensures c.if-not-within1.true-raw))))
+pub returns-then-not-is_within-5 : goal.returns-then-not-is_within-5
+returns-then-not-is_within-5 c =
+    goes_on _ _ _ _ c.is_within.ensures c.if-not-is_within.false
+    (goes_on _ _ _ _ c.is_within-2.ensures c.if-not-is_within-2.false
+    (goes_on _ _ _ _ c.is_within-3.ensures c.if-not-is_within-3.false
+    (goes_on _ _ _ _ c.is_within-4.ensures c.if-not-is_within-4.false
+    (stops _ _ _ c.is_within-5.ensures c.if-not-is_within-5.true))))
 
 pub returns-then-version-eq1 : goal.returns-then-version-eq1
 returns-then-version-eq1 c =
-    goes_on _ _ _ _ c.within4.ensures c.if-not-within4.false-raw
-    (goes_on _ _ _ _ c.within4-2.ensures c.if-not-within4-2.false-raw
-    (goes_on _ _ _ _ c.within2.ensures c.if-not-within2.false-raw
-    (goes_on _ _ _ _ c.within2-2.ensures c.if-not-within2-2.false-raw
-    (goes_on _ _ _ _ c.within1.ensures c.if-not-within1.false-raw
+    goes_on _ _ _ _ c.is_within.ensures c.if-not-is_within.false
+    (goes_on _ _ _ _ c.is_within-2.ensures c.if-not-is_within-2.false
+    (goes_on _ _ _ _ c.is_within-3.ensures c.if-not-is_within-3.false
+    (goes_on _ _ _ _ c.is_within-4.ensures c.if-not-is_within-4.false
+    (goes_on _ _ _ _ c.is_within-5.ensures c.if-not-is_within-5.false
     (covers_both c.args.version c.args.s.now c.args.at c.args.h.direction c.if-version-eq1.true)))))
 
-pub within1-requires-2 : goal.within1-requires-2
-within1-requires-2 c = (omega (arith, size_other c.args.version c.if-version-eq1.false), omega (arith, size_other c.args.version c.if-version-eq1.false))
+pub is_within-requires-6 : goal.is_within-requires-6
+is_within-requires-6 c = (omega (arith, size_other c.args.version c.if-version-eq1.false), omega (arith, size_other c.args.version c.if-version-eq1.false))
 
 pub returns : goal.returns
 returns c =
-    goes_on _ _ _ _ c.within4.ensures c.if-not-within4.false-raw
-    (goes_on _ _ _ _ c.within4-2.ensures c.if-not-within4-2.false-raw
-    (goes_on _ _ _ _ c.within2.ensures c.if-not-within2.false-raw
-    (goes_on _ _ _ _ c.within2-2.ensures c.if-not-within2-2.false-raw
-    (goes_on _ _ _ _ c.within1.ensures c.if-not-within1.false-raw
-    (covers_its_own c.args.version c.args.s.now c.args.at c.args.h.direction _ c.if-version-eq1.false c.within1-2.ensures)))))
+    goes_on _ _ _ _ c.is_within.ensures c.if-not-is_within.false
+    (goes_on _ _ _ _ c.is_within-2.ensures c.if-not-is_within-2.false
+    (goes_on _ _ _ _ c.is_within-3.ensures c.if-not-is_within-3.false
+    (goes_on _ _ _ _ c.is_within-4.ensures c.if-not-is_within-4.false
+    (goes_on _ _ _ _ c.is_within-5.ensures c.if-not-is_within-5.false
+    (covers_its_own c.args.version c.args.s.now c.args.at c.args.h.direction _ c.if-version-eq1.false c.is_within-6.ensures)))))

@@ -1,12 +1,14 @@
-use borrow.Author.Rules.{rules}
-use Rattle.policy.proofs.Ranked.{times_here, times_other, times_all}
+use Rattle.std.proofs.Common.{ℕ, ◌≡◌, ◌∙◌, sym, Bool, true, false, refl, nat_eq, rules, cond, ◌+◌, zero-add}
+use Rattle.std.specs.List.{count_by}
+use Rattle.std.proofs.lemmas.List.Recursion.{is_count_by}
+use Rattle.policy.specs.Ranking.{times}
 use Rattle.policy.proofs.ranking.times_in.Goals as goal
 
-pub loop-i-preserved-then-j-k : goal.loop-i-preserved-then-j-k
-loop-i-preserved-then-j-k c = (search rules, search rules, search (times_other, rules))
-
-pub loop-i-preserved : goal.loop-i-preserved
-loop-i-preserved c = (search rules, search rules, search (times_here, rules))
+one_more : (b : Bool) (n : ℕ) → cond b 1 0 + n ≡ cond b (1 + n) n
+one_more true n = refl
+one_more false n = zero-add n
 
 pub returns : goal.returns
-returns c = search (times_all, rules)
+returns c =
+    let e : c.count.result ≡ count_by (λ j. nat_eq j c.args.k) c.args.numbers.now = search rules in
+    e ∙ sym (is_count_by (times c.args.k) _ refl (λ j js. one_more (nat_eq j c.args.k) (times c.args.k js)) c.args.numbers.now)

@@ -1,6 +1,7 @@
 -- What is decoded are the rows of the file.
-use Rattle.wire.proofs.Sizes.{first_counted}
+-- Assumes nothing.
 use borrow.Author.Rules.{rules}
+use Rattle.wire.proofs.Sizes.{first_counted}
 use Rattle.reconcile.proofs.Pairs.{decoded_rows, crossed_list}
 use Rattle.reconcile.proofs.cross.cross_list.Goals as goal
 

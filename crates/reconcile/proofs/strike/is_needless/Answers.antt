@@ -1,10 +1,8 @@
 -- The search finds a header exactly if the list without the entry differs.
+-- Assumes nothing.
 use borrow.Author.Rules.{rules}
-use Rattle.reconcile.proofs.Finishing.{needed_some, needless_none}
+use Rattle.reconcile.proofs.Finishing.{needless_found}
 use Rattle.reconcile.proofs.strike.is_needless.Goals as goal
 
-pub returns-in-At : goal.returns-in-At
-returns-in-At c = search (needed_some, rules)
-
-pub returns-in-Nothing : goal.returns-in-Nothing
-returns-in-Nothing c = search (needless_none, rules)
+pub returns : goal.returns
+returns c = search (needless_found, rules)

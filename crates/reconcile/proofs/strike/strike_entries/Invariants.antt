@@ -1,11 +1,7 @@
 -- Those from place k on are examined: what is left of them stands from place top on, and the entries before k as at the start.
-use mathlib.Core.Path.{◌≡◌}
-use lib.ListN.{length}
+-- Assumes nothing.
 use Rattle.reconcile.proofs.Finishing.{Examined}
 use Rattle.reconcile.proofs.strike.strike_entries.Given as goal
 
 abbrev pub invariant-loop-k : goal.invariant-loop-k
-invariant-loop-k l = (length l.rows ≡ length l.initial.rows) × Examined l.initial.entries l.n l.rows l.entries l.top l.k
-
-abbrev pub decreases-loop-k : goal.decreases-loop-k
-decreases-loop-k l = l.k
+invariant-loop-k l = Examined l.initial.entries l.n l.rows l.entries l.top l.k

@@ -2,5 +2,5 @@
 use Rattle.region.proofs.Opening.{improves_at}
 use Rattle.region.proofs.corner.is_improved.Goals as goal
 
-pub returns-in-At : goal.returns-in-At
-returns-in-At c = search improves_at
+pub returns-in-Some : goal.returns-in-Some
+returns-in-Some c = search improves_at

@@ -2,8 +2,8 @@
 use Rattle.region.proofs.ListChecks.{gap_refuses, gap_passes}
 use Rattle.region.proofs.covering.gap_checked.Goals as goal
 
-pub returns-in-At : goal.returns-in-At
-returns-in-At c = search gap_refuses
+pub returns-in-Some : goal.returns-in-Some
+returns-in-Some c = search gap_refuses
 
-pub returns-in-Nothing : goal.returns-in-Nothing
-returns-in-Nothing c = search gap_passes
+pub returns-in-None : goal.returns-in-None
+returns-in-None c = search gap_passes

@@ -1,12 +1,9 @@
-use Rattle.std.proofs.Common.{arith}
-use Rattle.region.proofs.Fields.{next_none, next_more, next_is}
+use Rattle.std.proofs.Common.{◌≡◌, rules}
+use Rattle.std.specs.Option.{option_map}
+use Rattle.region.proofs.Fields.{next_is}
 use Rattle.region.proofs.cut.next_field.Goals as goal
 
-pub loop-f-init : goal.loop-f-init
-loop-f-init c = (omega arith, search next_none)
-
-pub loop-f-preserved : goal.loop-f-preserved
-loop-f-preserved c = (omega arith, search next_more)
-
 pub returns : goal.returns
-returns c = search next_is
+returns c =
+    let e : c.map.result ≡ option_map (λ f. f.0) c.loop-f.best = search rules in
+    rw e (search next_is)

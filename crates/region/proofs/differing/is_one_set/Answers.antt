@@ -1,20 +1,11 @@
-use Rattle.std.proofs.Common.{refl, arith, rules}
-use Rattle.policy.proofs.Bool.{clash}
-use Rattle.wire.proofs.Sizes.{next_below}
-use Rattle.region.proofs.OneSet.{none_yet, one_before, from_first}
+use Rattle.std.proofs.Common.{◌-◌, rules}
+use Rattle.std.proofs.iter.runs.Sources.{range_runs_back, ranges}
+use Rattle.region.proofs.OneSet.{all_one_set}
 use Rattle.region.proofs.differing.is_one_set.Goals as goal
 
-pub loop-i-init : goal.loop-i-init
-loop-i-init c = (search rules, search none_yet)
-
-pub set_in-requires : goal.set_in-requires
-set_in-requires c = search next_below
-
-pub returns-then-set_in-s : goal.returns-then-set_in-s
-returns-then-set_in-s c = λ e. clash e refl
-
-pub loop-i-preserved : goal.loop-i-preserved
-loop-i-preserved c = (omega arith, search one_before)
-
 pub returns : goal.returns
-returns c = λ e. search from_first
+returns c =
+    let a = c.args in
+    let p = c.all.ensures.runs in
+    let q = c.rev.ensures.runs p.0 p.0.seen p.1 in
+    λ e. all_one_set a.file.now a.s a.n λ i l. let k = (range_runs_back q.0 q.0.seen).3 (a.n - 1 - i) in search (rules, ranges)

@@ -3,6 +3,7 @@ use Rattle.std.proofs.Common.{◌≡◌, ◌+◌, ◌*◌, ◌≤◌, ◌++◌, 
 use Rattle.policy.specs.Header.{arity, headers}
 use Rattle.policy.specs.Sides.{box_of}
 use Rattle.policy.specs.steps.Rows.{sides, rows_in}
+use Rattle.region.specs.steps.Pieces.{Next}
 use Rattle.region.proofs.Steps.{Cutting, Open}
 use Rattle.region.proofs.Split.{shorts}
 use Rattle.region.proofs.least.+least_in_piece_search_pieces.Given as goal
@@ -24,8 +25,8 @@ decreases-least_in_piece-loop-picked l = l.n
 -- the row is cut off: the part below and the part that is kept have what is still to be found
 abbrev pub invariant-search_pieces-loop-next : goal.invariant-search_pieces-loop-next
 invariant-search_pieces-loop-next l =
-    ((length l.x ≡ sides) × (length l.kept ≡ sides))
-    × Cutting headers (rows_in l.a ++ rows_in l.b) (box_of l.s 0) l.left (box_of l.initial.x 0) (box_of l.initial.kept 0) l.initial.found (box_of l.x 0) (box_of l.kept 0) l.found l.next
+    (((length l.x ≡ sides) × (length l.kept ≡ sides)) × Next (box_of l.x 0) (box_of l.s 0) l.next)
+    × Cutting headers (rows_in l.a ++ rows_in l.b) (box_of l.s 0) l.left (box_of l.initial.x 0) (box_of l.initial.kept 0) l.initial.found (box_of l.x 0) (box_of l.kept 0) l.found
 
 abbrev pub decreases-search_pieces-loop-next : goal.decreases-search_pieces-loop-next
 decreases-search_pieces-loop-next l = shorts arity (box_of l.x 0) (box_of l.s 0)

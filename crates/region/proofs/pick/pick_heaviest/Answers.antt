@@ -3,9 +3,6 @@ use Rattle.policy.specs.Sides.{box_of}
 use Rattle.region.proofs.Choosing.{number_held}
 use Rattle.region.proofs.pick.pick_heaviest.Goals as goal
 
-pub returns-then-c : goal.returns-then-c
-returns-then-c c = c.choose-c.ensures.1.1 c.if-c.true
-
 pub returns : goal.returns
 returns c =
     let a = c.args in

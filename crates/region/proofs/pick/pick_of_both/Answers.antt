@@ -1,5 +1,4 @@
 -- What is chosen of either list is picked of both.
-use Rattle.std.proofs.Common.{arith}
 use Rattle.policy.specs.Sides.{box_of}
 use Rattle.policy.specs.steps.Rows.{rows_in}
 use Rattle.region.proofs.Choosing.{covers_left, covers_right, picks_left, picks_behind, number_held}
@@ -26,9 +25,6 @@ returns-then-d-c c =
     let a = c.args in
     let d = c.choose-c.ensures in
     picks_left (rows_in a.a.now) (rows_in a.b.now) (box_of a.x.now 0) _ (number_held a.a.now (box_of a.x.now 0) _ d.0 d.1.0)
-
-pub overflow_add-result : goal.overflow_add-result
-overflow_add-result c = omega (arith, c.choose-d.ensures.0, c.well_formed.0, c.well_formed.1.1.0)
 
 pub returns : goal.returns
 returns c =

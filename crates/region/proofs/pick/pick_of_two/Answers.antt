@@ -2,7 +2,7 @@
 use Rattle.std.proofs.Common.{◌/◌, length, sym, arith}
 use Rattle.policy.specs.Sides.{box_of}
 use Rattle.policy.specs.steps.Rows.{row_size, rows_in}
-use Rattle.region.proofs.Choosing.{covers_left, covers_right, none_holds, picks_first, picks_second, picked_few}
+use Rattle.region.proofs.Choosing.{covers_left, covers_right, picks_first, picks_second, picked_few}
 use Rattle.policy.proofs.Slices.{length_rows}
 use Rattle.region.proofs.pick.pick_of_two.Goals as goal
 
@@ -16,21 +16,17 @@ returns-then-last_covers-2 c =
     let a = c.args in
     covers_right (rows_in a.a.now) (rows_in a.b.now) (box_of a.x.now 0) (c.last_covers-2.ensures c.if-last_covers-2.true)
 
-pub returns-then-j-eq0 : goal.returns-then-j-eq0
-returns-then-j-eq0 c =
+pub returns-in_default : goal.returns-in_default
+returns-in_default c =
     let a = c.args in
-    picks_first (rows_in a.a.now) (rows_in a.b.now) (box_of a.x.now 0) c.pick_of_one.result c.pick_of_one.ensures (none_holds a.b.now (box_of a.x.now 0) _ c.if-j-eq0.true c.up_to_last-j.ensures)
+    picks_first (rows_in a.a.now) (rows_in a.b.now) (box_of a.x.now 0) c.pick_of_one.result c.pick_of_one.ensures c.in_default.ensures
 
 pub picked_behind-requires : goal.picked_behind-requires
 picked_behind-requires c =
     let a = c.args in
     omega (arith, picked_few (rows_in a.b.now) (box_of a.x.now 0) c.pick_heaviest-p.result c.pick_heaviest-p.ensures, length_rows a.b.now 0 (length a.b.now / row_size))
 
-pub returns-then-i-eq0 : goal.returns-then-i-eq0
-returns-then-i-eq0 c =
+pub returns-in_default-i : goal.returns-in_default-i
+returns-in_default-i c =
     let a = c.args in
-    picks_second (rows_in a.a.now) (rows_in a.b.now) (box_of a.x.now 0) _ c.pick_heaviest-p.result _ (sym (length_rows a.a.now 0 (length a.a.now / row_size))) c.pick_heaviest-p.ensures (none_holds a.a.now (box_of a.x.now 0) _ c.if-i-eq0.true c.up_to_last-i.ensures) c.picked_behind.ensures
-
-pub pick_of_both-requires : goal.pick_of_both-requires
-pick_of_both-requires c =
-    ((omega (arith, c.if-i-eq0.false), c.up_to_last-i.ensures), (omega (arith, c.if-j-eq0.false), c.up_to_last-j.ensures))
+    picks_second (rows_in a.a.now) (rows_in a.b.now) (box_of a.x.now 0) _ c.pick_heaviest-p.result _ (sym (length_rows a.a.now 0 (length a.a.now / row_size))) c.pick_heaviest-p.ensures c.in_default-i.ensures c.picked_behind.ensures

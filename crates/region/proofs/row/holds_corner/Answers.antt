@@ -1,16 +1,12 @@
-use Rattle.std.proofs.Common.{arith}
-use Rattle.policy.proofs.Every.{passed_none}
-use Rattle.region.proofs.Holding.{corner_missed, corner_more, corner_held}
+use Rattle.std.proofs.Common.{◌≡◌, ℕ, ◌<◌, true, false, rules}
+use Rattle.std.proofs.iter.runs.Sources.{range_runs, ranges}
+use Rattle.policy.specs.Header.{arity}
+use Rattle.region.proofs.Holding.{holds_at, corner_is}
 use Rattle.region.proofs.row.holds_corner.Goals as goal
 
-pub loop-f-init : goal.loop-f-init
-loop-f-init c = (omega arith, passed_none _)
-
-pub returns-then-not-is_between : goal.returns-then-not-is_between
-returns-then-not-is_between c = search corner_missed
-
-pub loop-f-preserved : goal.loop-f-preserved
-loop-f-preserved c = (omega arith, search corner_more)
-
 pub returns : goal.returns
-returns c = search corner_held
+returns c =
+    let a = c.args in
+    let yes : c.all.result ≡ true → (j : ℕ) → j < arity → holds_at a.s.now a.at a.b.now j ≡ true = λ e j l. let k = (range_runs c.all.ensures.runs.0 c.all.ensures.runs.0.seen).3 j in search (rules, ranges) in
+    let no : c.all.result ≡ false → (j : ℕ) × (j < arity) × (holds_at a.s.now a.at a.b.now j ≡ false) = search (rules, ranges) in
+    corner_is a.s.now a.at a.b.now c.all.result yes no

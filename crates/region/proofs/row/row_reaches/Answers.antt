@@ -1,16 +1,13 @@
-use Rattle.std.proofs.Common.{arith}
-use Rattle.policy.proofs.Every.{passed_none}
-use Rattle.region.proofs.Holding.{end_missed, end_more, ends_reached}
+use Rattle.std.proofs.Common.{◌≡◌, ℕ, ◌<◌, ◌≤◌, true, false, rules}
+use Rattle.std.proofs.iter.runs.Sources.{range_runs, ranges}
+use Rattle.policy.specs.Header.{arity}
+use Rattle.policy.specs.Sides.{field}
+use Rattle.region.proofs.Holding.{ends_are}
 use Rattle.region.proofs.row.row_reaches.Goals as goal
 
-pub loop-f-init : goal.loop-f-init
-loop-f-init c = (omega arith, passed_none _)
-
-pub returns-then-high_at-high : goal.returns-then-high_at-high
-returns-then-high_at-high c = search end_missed
-
-pub loop-f-preserved : goal.loop-f-preserved
-loop-f-preserved c = (omega arith, search end_more)
-
 pub returns : goal.returns
-returns c = search ends_reached
+returns c =
+    let a = c.args in
+    let yes : c.all.result ≡ true → (j : ℕ) → j < arity → (field a.b.now 0 j).high ≤ (field a.s.now a.at j).high = λ e j l. let k = (range_runs c.all.ensures.runs.0 c.all.ensures.runs.0.seen).3 j in search (rules, ranges) in
+    let no : c.all.result ≡ false → (j : ℕ) × (j < arity) × ((field a.s.now a.at j).high < (field a.b.now 0 j).high) = search (rules, ranges) in
+    ends_are a.s.now a.at a.b.now c.all.result yes no

@@ -2,8 +2,8 @@
 use Rattle.region.proofs.Catching.{sooner_at, sooner_none}
 use Rattle.region.proofs.treated.is_sooner.Goals as goal
 
-pub returns-in-At : goal.returns-in-At
-returns-in-At c = search sooner_at
+pub returns-in-Some : goal.returns-in-Some
+returns-in-Some c = search sooner_at
 
-pub returns-in-Nothing : goal.returns-in-Nothing
-returns-in-Nothing c = search sooner_none
+pub returns-in-None : goal.returns-in-None
+returns-in-None c = search sooner_none

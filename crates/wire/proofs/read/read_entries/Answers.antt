@@ -1,20 +1,10 @@
 use mathlib.Core.Path.{refl}
-use borrow.Author.Rules.{rules}
+use native.Mathlib.Omega.{arith}
 use Rattle.wire.proofs.Lists.{firsts_next, firsts_listed}
-use Rattle.wire.proofs.Sizes.{entry_within}
 use Rattle.wire.proofs.read.read_entries.Goals as goal
 
-pub entry_in-requires : goal.entry_in-requires
-entry_in-requires c = search entry_within
-
 pub loop-i-preserved : goal.loop-i-preserved
-loop-i-preserved c =
-    let a = c.args in
-    let l = c.loop-i in
-    (search rules, firsts_next a.file.now l.entries _ l.i (search rules) c.entry_in.ensures l.invariant.1)
+loop-i-preserved c = firsts_next c.args.file.now c.loop-i.entries _ c.loop-i.i (omega arith) c.entry_in.ensures c.loop-i.invariant
 
 pub returns : goal.returns
-returns c =
-    let a = c.args in
-    let l = c.loop-i in
-    firsts_listed a.file.now l.entries a.n l.i (search rules) l.invariant.1 _ refl
+returns c = firsts_listed c.args.file.now c.loop-i.entries c.args.n c.loop-i.i (omega arith) c.loop-i.invariant _ refl

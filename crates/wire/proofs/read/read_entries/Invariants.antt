@@ -1,11 +1,7 @@
 -- After i turns the first i places hold the first i records, and the others are empty.
 use mathlib.Core.Path.{◌≡◌}
-use Prim.Native.Nat.{◌-◌, ◌≤◌}
 use Rattle.wire.proofs.Lists.{firsts}
 use Rattle.wire.proofs.read.read_entries.Given as goal
 
 abbrev pub invariant-loop-i : goal.invariant-loop-i
-invariant-loop-i l = (l.i ≤ l.n) × (l.entries ≡ firsts l.file l.i)
-
-abbrev pub decreases-loop-i : goal.decreases-loop-i
-decreases-loop-i l = l.n - l.i
+invariant-loop-i l = l.entries ≡ firsts l.file l.i

@@ -16,12 +16,12 @@ returns-then-party-gt8 c =
 pub slot_with-slot-requires : goal.slot_with-slot-requires
 slot_with-slot-requires c = search good_fits
 
-pub returns-in-Refused : goal.returns-in-Refused
-returns-in-Refused c =
-    let k = file_refused c.args.self c.args.party c.args.bytes.now c.check_list-checked.result c.if-party-lt1.false c.if-party-gt8.false c.check_list-checked.ensures c.in-Refused.r c.in-Refused.is in
+pub returns-in-Err : goal.returns-in-Err
+returns-in-Err c =
+    let k = file_refused c.args.self c.args.party c.args.bytes.now c.check_list.result c.if-party-lt1.false c.if-party-gt8.false c.check_list.ensures c.in-Err.r c.in-Err.is in
     record { answers = k.0; traced = k.1 }
 
-pub returns-in-Good : goal.returns-in-Good
-returns-in-Good c =
-    let k = file_accepted c.args.self c.args.party c.args.bytes.now c.check_list-checked.result c.if-party-lt1.false c.if-party-gt8.false c.check_list-checked.ensures c.in-Good.n c.slot_with-slot.result c.in-Good.is c.slot_with-slot.ensures in
+pub returns-in-Ok : goal.returns-in-Ok
+returns-in-Ok c =
+    let k = file_accepted c.args.self c.args.party c.args.bytes.now c.check_list.result c.if-party-lt1.false c.if-party-gt8.false c.check_list.ensures c.in-Ok.n c.slot_with-slot.result c.in-Ok.is c.slot_with-slot.ensures in
     record { answers = k.0; traced = k.1 }

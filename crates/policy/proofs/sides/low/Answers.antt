@@ -1,6 +1,0 @@
--- The place of a box is 0.
-use native.Mathlib.Nat.{add-zero}
-use Rattle.policy.proofs.sides.low.Goals as goal
-
-pub returns : goal.returns
-returns c = simp add-zero
