@@ -4,23 +4,6 @@ use std::fmt::Display;
 use std::io;
 use wire::check::check_file;
 
-fn print_refusal(rt: &impl Print, r: Refusal) -> io::Result<()> {
-    match r {
-        Refusal::Missized => println!(rt; " 1"),
-        Refusal::Version => println!(rt; " 2"),
-        Refusal::Count => println!(rt; " 3"),
-        Refusal::Crossed(i) => println!(rt; " 4 {i}"),
-        _ => println!(rt; " other"),
-    }
-}
-
-fn print_answer(rt: &impl Print, answer: Result<usize, Refusal>) -> io::Result<()> {
-    match answer {
-        Ok(n) => println!(rt; " 0 {n}"),
-        Err(r) => print_refusal(rt, r),
-    }
-}
-
 // Checks lent bytes as a file whose list may have up to limit entries.
 pub(crate) fn check<N: Display + Drop>(
     rt: &impl Print,
@@ -28,6 +11,12 @@ pub(crate) fn check<N: Display + Drop>(
     lent: &[u8],
     limit: usize,
 ) -> io::Result<()> {
-    rt.print(name)?;
-    print_answer(rt, check_file(lent, limit))
+    match check_file(lent, limit) {
+        Ok(n) => println!(rt; "{name} 0 {n}"),
+        Err(Refusal::Missized) => println!(rt; "{name} 1"),
+        Err(Refusal::Version) => println!(rt; "{name} 2"),
+        Err(Refusal::Count) => println!(rt; "{name} 3"),
+        Err(Refusal::Crossed(i)) => println!(rt; "{name} 4 {i}"),
+        Err(_) => println!(rt; "{name} other"),
+    }
 }

@@ -16,25 +16,25 @@ fn record_matches(s: &[u8], at: usize, version: u8, h: Header) -> bool
     requires { at + record_size version ≤ length s.now }
     ensures { result ≡ matches (entry_at version s.now at) h }
 {
-    if !is_within(s, at, at + 4, h.local) {
+    if !is_within::<u32>(s, at, at + 4, h.local) {
         return false;
     }
-    if !is_within(s, at + 8, at + 12, h.remote) {
+    if !is_within::<u32>(s, at + 8, at + 12, h.remote) {
         return false;
     }
-    if !is_within(s, at + 16, at + 18, h.local_port) {
+    if !is_within::<u16>(s, at + 16, at + 18, h.local_port as u32) {
         return false;
     }
-    if !is_within(s, at + 20, at + 22, h.remote_port) {
+    if !is_within::<u16>(s, at + 20, at + 22, h.remote_port as u32) {
         return false;
     }
-    if !is_within(s, at + 24, at + 25, h.protocol) {
+    if !is_within::<u8>(s, at + 24, at + 25, h.protocol as u32) {
         return false;
     }
     if version == 1 {
         return h.direction <= 1;
     }
-    is_within(s, at + 26, at + 27, h.direction)
+    is_within::<u8>(s, at + 26, at + 27, h.direction as u32)
 }
 
 // The first of the first n records of a file that matches h.

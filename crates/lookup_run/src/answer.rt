@@ -2,7 +2,20 @@
 use lookup::file::{lookup_number, lookup_record};
 use policy::header::Header;
 use policy::refusal::Refusal;
-use std::io;
+use std::{fmt, io};
+
+// Bytes in hexadecimal.
+#[derive(Clone, Copy)]
+struct Hexadecimal<'a>(&'a [u8]);
+
+impl fmt::Display for Hexadecimal<'_> {
+    fn fmt<W: fmt::Write>(&self, f: &mut fmt::Formatter<W>) -> fmt::Result {
+        for b in self.0 {
+            write!(f, "{b:02x}")?;
+        }
+        Ok(())
+    }
+}
 
 fn print_refusal(rt: &impl Print, r: Refusal) -> io::Result<()> {
     match r {
@@ -24,9 +37,5 @@ fn print_answer(rt: &impl Print, answer: Result<Option<usize>, Refusal>) -> io::
 
 pub(crate) fn look_up(rt: &impl Print, file: &[u8], h: Header) -> io::Result<()> {
     print_answer(rt, lookup_number(file, h))?;
-    print!(rt; ":")?;
-    for b in lookup_record(file, h) {
-        print!(rt; "{b:02x}")?;
-    }
-    println!(rt)
+    println!(rt; ":{}", Hexadecimal(lookup_record(file, h)))
 }

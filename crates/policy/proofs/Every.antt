@@ -4,9 +4,11 @@ use Prim.Native.Nat.{ℕ, zero, suc, ◌<◌}
 use native.Mathlib.Omega.{arith}
 use mathlib.Core.Path.{◌≡◌, refl, sym, ◌∙◌, ap}
 use mathlib.Core.Bool.{Bool, true, false, ◌&&◌}
-use lib.Dec.{leb}
+use lib.Dec.{leb, ltb, eqb}
+use borrow.Author.Tests.{eqb-true}
+use Rattle.policy.specs.Row.{precedes}
 use Rattle.policy.specs.Box.{Range, within, common, inside, proper, meet}
-use Rattle.policy.proofs.Conjunctions.{paired}
+use Rattle.policy.proofs.Conjunctions.{differs, agrees, paired}
 use Rattle.policy.specs.Sides.{row_of}
 
 -- every number below k passes
@@ -63,3 +65,26 @@ proper_every (suc k) g = ap (leb (g 0).low (g 0).high &&◌) (proper_every k (λ
 pub meet_fields : (k : ℕ) (g h : ℕ → Range) → row_of k (λ j. common (g j) (h j)) ≡ meet k (row_of k g) (row_of k h)
 meet_fields zero g h = refl
 meet_fields (suc k) g h = paired refl (meet_fields k (λ j. g (suc j)) (λ j. h (suc j)))
+
+-- the order of rows: the first field that differs decides
+pub first_decides : (k f : ℕ) (x y : ℕ → ℕ) → f < k → Passed (λ j. eqb (x j) (y j)) f → (x f ≡ y f → ⊥) → ltb (x f) (y f) ≡ precedes k (row_of k x) (row_of k y)
+first_decides zero f x y l p n = absurd (none f l)
+  where
+    none : (f : ℕ) → f < 0 → ⊥
+    none f l = omega arith
+first_decides (suc k) zero x y l p n = differs (x 0) (y 0) (precedes k (row_of k (λ j. x (suc j))) (row_of k (λ j. y (suc j)))) n
+first_decides (suc k) (suc f) x y l p n =
+    agrees (x 0) (y 0) (precedes k (row_of k (λ j. x (suc j))) (row_of k (λ j. y (suc j)))) (ltb (x (suc f)) (y (suc f))) (eqb-true (x 0) (y 0) (p 0 (omega arith)))
+    (first_decides k f (λ j. x (suc j)) (λ j. y (suc j)) (omega arith) (λ j m. p (suc j) (up j f m)) n)
+  where
+    up : (j f : ℕ) → j < f → suc j < suc f
+    up j f l = omega arith
+
+pub none_decides : (k : ℕ) (x y : ℕ → ℕ) → Passed (λ j. eqb (x j) (y j)) k → false ≡ precedes k (row_of k x) (row_of k y)
+none_decides zero x y p = refl
+none_decides (suc k) x y p =
+    agrees (x 0) (y 0) (precedes k (row_of k (λ j. x (suc j))) (row_of k (λ j. y (suc j)))) false (eqb-true (x 0) (y 0) (p 0 (omega arith)))
+    (none_decides k (λ j. x (suc j)) (λ j. y (suc j)) λ j m. p (suc j) (up j k m))
+  where
+    up : (j f : ℕ) → j < f → suc j < suc f
+    up j f l = omega arith

@@ -5,14 +5,15 @@ use native.Mathlib.Omega.{arith}
 use mathlib.Core.Path.{◌≡◌, refl, sym, ◌∙◌, ap, ap₂}
 use mathlib.Core.Bool.{Bool, true, false, ◌&&◌}
 use mathlib.Core.List.{List}
-use lib.Dec.{leb, ltb}
+use lib.Dec.{leb, ltb, eqb}
 use lib.ListN.{length, get_or}
 use borrow.Author.Tests.{lt-leb, le-leb, ltb-true, ltb-false}
+use Rattle.policy.specs.Row.{precedes}
 use Rattle.policy.specs.Box.{Range, within, common, inside, proper, meet}
 use Rattle.policy.specs.Header.{arity}
 use Rattle.policy.specs.Sides.{row_of, field, box_of}
 use Rattle.policy.specs.steps.Rows.{numbers_in}
-use Rattle.policy.proofs.Every.{every, Passed, every_passed, one_fails, row_ext, inside_every, proper_every, meet_fields}
+use Rattle.policy.proofs.Every.{every, Passed, every_passed, one_fails, row_ext, inside_every, proper_every, meet_fields, first_decides, none_decides}
 
 -- one field more has passed
 pub passed_more : (t : ℕ → Bool) (f : ℕ) → Passed t f → t f ≡ true → Passed t (f + 1)
@@ -48,13 +49,16 @@ pub proper_is : (b : List ℕ) → every arity (proper_at b) ≡ proper arity (b
 unfolding box_of
 proper_is b = proper_every arity (field b 0)
 
--- a number lies in a box in a field
+-- a number lies in a box, and two numbers agree, in a field
 abbrev pub inside_at : List ℕ → List ℕ → ℕ → Bool
 inside_at b x j = within (field b 0 j) (get_or x j 0)
 
 pub inside_is : (b x : List ℕ) → every arity (inside_at b x) ≡ inside arity (box_of b 0) (numbers_in x)
 unfolding box_of
 inside_is b x = inside_every arity (field b 0) (λ j. get_or x j 0)
+
+abbrev pub agree_at : List ℕ → List ℕ → ℕ → Bool
+agree_at x y j = eqb (get_or x j 0) (get_or y j 0)
 
 -- ---- the loops: a field stops one, and it ends where all have passed
 
@@ -83,6 +87,16 @@ module _ (b x : List ℕ) (f : ℕ) where
 
   pub numbers_lie : arity ≤ f → Passed (inside_at b x) f → true ≡ inside arity (box_of b 0) (numbers_in x)
   numbers_lie l c = all_passed (inside_at b x) arity f l c ∙ inside_is b x
+
+module _ (x y : List ℕ) (f : ℕ) where
+  pub first_differs : f < arity → (get_or x f 0 ≡ get_or y f 0 → ⊥) → Passed (agree_at x y) f → ltb (get_or x f 0) (get_or y f 0) ≡ precedes arity (numbers_in x) (numbers_in y)
+  first_differs m n c = first_decides arity f (λ j. get_or x j 0) (λ j. get_or y j 0) m c n
+
+  pub none_differs : arity ≤ f → Passed (agree_at x y) f → false ≡ precedes arity (numbers_in x) (numbers_in y)
+  none_differs l c = none_decides arity (λ j. get_or x j 0) (λ j. get_or y j 0) λ j m. c j (wide j f m l)
+    where
+      wide : (j f : ℕ) → j < arity → arity ≤ f → j < f
+      wide j f m l = omega arith
 
 module _ (b : List ℕ) (f : ℕ) where
   module _ (l h : ℕ) (p : l ≡ (field b 0 f).low) (q : h ≡ (field b 0 f).high) where

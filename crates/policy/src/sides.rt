@@ -1,5 +1,6 @@
 // Rows and boxes: their sides, field by field.
 ghost use Rattle.std.specs.Prelude.{◌≡◌, ◌&&◌, ◌+◌, ◌≤◌, ◌<◌, length, leb};
+ghost use Rattle.policy.specs.Row.{precedes};
 ghost use Rattle.policy.specs.Box.{inside, proper, meet};
 ghost use Rattle.policy.specs.steps.Boxes.{same_box};
 ghost use Rattle.policy.specs.Header.{arity};
@@ -67,6 +68,18 @@ pub fn is_proper(b: &[u32; SIDES]) -> bool
         }
     }
     true
+}
+
+// Whether the numbers x come before y: the first that differs decides.
+pub fn precede(x: &[u32; FIELDS], y: &[u32; FIELDS]) -> bool
+    ensures { result ≡ precedes arity (numbers_in x.now) (numbers_in y.now) }
+{
+    for f in 0..FIELDS {
+        if x[f] != y[f] {
+            return x[f] < y[f];
+        }
+    }
+    false
 }
 
 // Whether the numbers x lie in b. They are looked at as far as the first that does not.

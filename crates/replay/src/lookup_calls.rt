@@ -1,10 +1,15 @@
 // Lookups.
+ghost use Rattle.std.specs.Prelude.{◌≡◌, ◌≤◌, take};
+ghost use Rattle.lookup.specs.Lookup.{caught_answer, table_lookup_of};
+ghost use Rattle.replay.specs.declared.value.TheConstants.{TABLE_LIMIT};
+
 use crate::answer::{caught, looked_up, numbered};
 use crate::print::{end, end_with};
 use crate::value::{Records, TABLE_LIMIT};
 use gateway::exports::policy_lookup;
 use lookup::file::{lookup_number, lookup_record};
 use lookup::table::lookup_table;
+use policy::entry::Entry;
 use policy::header::Header;
 use std::io;
 use wire::list::EMPTY;
@@ -22,11 +27,19 @@ pub(crate) fn look_up_record(rt: &impl Print, file: &[u8], h: Header) -> io::Res
     end_with(rt, part)
 }
 
+// The answer of a lookup in a table of the first n entries.
+fn look_up(entries: &[Entry; TABLE_LIMIT], n: usize, h: Header) -> Option<usize>
+    requires { n ≤ TABLE_LIMIT }
+    ensures { caught_answer result ≡ table_lookup_of (take n entries.now) h }
+{
+    lookup_table(&entries[..n], h)
+}
+
 // In a table.
 pub(crate) fn look_up_table(rt: &impl Print, table: Records<'_>, h: Header) -> io::Result<()> {
     let mut entries = [EMPTY; TABLE_LIMIT];
     let count = table.read(&mut entries);
-    caught(rt, lookup_table(&entries[..count], h))?;
+    caught(rt, look_up(&entries, count, h))?;
     end(rt)
 }
 

@@ -8,8 +8,12 @@ use mathlib.Core.Bool.{Bool, true, false, cond}
 use mathlib.Core.List.{List}
 use lib.Dec.{eqb}
 use lib.ListN.{length}
-use borrow.Author.Tests.{ne_eqb}
+use borrow.Author.Tests.{eq-eqb, ne_eqb}
 use Rattle.wire.specs.Format.{head_size, filed_limit, record_size, file_size, version_in, place_in, records_in}
+
+-- what the code's tests of the version show
+pub size_one : (v : ℕ) → v ≡ 1 → 28 ≡ record_size v
+size_one v e = sym (ap (λ (b : Bool). cond b 28 30) (eq-eqb v 1 e))
 
 pub size_other : (v : ℕ) → (v ≡ 1 → ⊥) → 30 ≡ record_size v
 size_other v n = sym (ap (λ (b : Bool). cond b 28 30) (ne_eqb v 1 n))

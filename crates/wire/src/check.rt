@@ -12,6 +12,8 @@ use policy::entry::is_crossed;
 use policy::refusal::Refusal;
 
 // Check 4, of the n records of a file.
+// speed: a function of its own. Put where it is called, it makes check_file too large for that: a lookup of a file that checks 1 to 3 refuse took up to 1.6 times as long.
+#[inline(never)]
 fn check_entries(file: &[u8], n: usize) -> Result<usize, Refusal>
     requires { place_in file.now n ≤ length file.now }
     ensures { checked result ≡ crossed_of crossed (entries_from file.now 0 n) n }

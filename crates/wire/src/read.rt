@@ -5,7 +5,7 @@ ghost use Rattle.wire.specs.Lists.{listed, reading, reading_of};
 
 use crate::check::check_file;
 use crate::format::LIST_LIMIT;
-use crate::list::{EMPTY, Entries};
+use crate::list::{EMPTY, Entries, no_entries};
 use crate::record::entry_in;
 use policy::refusal::Refusal;
 
@@ -31,4 +31,14 @@ pub fn read_list(file: &[u8]) -> Result<Entries, Refusal>
 {
     let n = check_file(file, LIST_LIMIT)?;
     Ok(read_entries(file, n))
+}
+
+// The list of a reading. That of a refused file has no entries, and is of version 2.
+pub fn list_of(r: Result<Entries, Refusal>) -> Entries
+    ensures { result ≡ (reading r).1 }
+{
+    match r {
+        Ok(list) => list,
+        Err(_) => no_entries(),
+    }
 }
